@@ -1,0 +1,5 @@
+pub mod LimitRows
+pub mod Masks
+pub mod PairRows
+pub mod Rows
+pub mod Words
