@@ -1,4 +1,6 @@
 // Takes one quotation through its acts: reads who proposes what, asks the studio's rules before each act, and prints what was done.
+#![tactic(auto)]
+
 mod act;
 mod person;
 mod rules;

@@ -1,13 +1,14 @@
 -- What limits forbid, and why a row is refused. Assumes nothing.
 use Rattle.std.specs.Prelude.{ℕ, ◌^◌, ◌<◌, Bool, cond, ◌&&◌, List, take, Some, None, Option, bit_and, count_ones, nat_le, nat_lt}
 use Rattle.sets.specs.Rows.{SomeRow, some}
+use Rattle.sets.specs.declared.kind.Kind.{Ghosts}
 use Rattle.sets.specs.declared.limits.table.Limit.{Limit}
 use Rattle.sets.specs.declared.limits.table.Limits.{Limits}
 use Rattle.sets.specs.declared.refusal.RowRefusal.{RowRefusal}
 use Rattle.sets.specs.declared.refusal.RowRefusal.TheVariants.{OutOfRange, TableFull}
 
 -- the rows of a table, in the order in which they were added
-abbrev pub limits_of : {X : Type 0} → Limits X → List Limit
+abbrev pub limits_of : {X : Type 0} {kind : Ghosts X} → Limits X kind → List Limit
 limits_of x = take x.count x.rows
 
 -- how many members two sets have in common

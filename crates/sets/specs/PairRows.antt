@@ -2,13 +2,14 @@
 use Rattle.std.specs.Prelude.{ℕ, Bool, cond, ◌&&◌, List, take, Some, None, Option, ◌==◌, nat_lt}
 use Rattle.sets.specs.Masks.{Member, has}
 use Rattle.sets.specs.Rows.{SomeRow, some}
+use Rattle.sets.specs.declared.kind.Kind.{Ghosts}
 use Rattle.sets.specs.declared.pairs.table.Pair.{Pair}
 use Rattle.sets.specs.declared.pairs.table.Pairs.{Pairs}
 use Rattle.sets.specs.declared.refusal.RowRefusal.{RowRefusal}
 use Rattle.sets.specs.declared.refusal.RowRefusal.TheVariants.{OutOfRange, TableFull, EqualPair}
 
 -- the pairs of a table, in the order in which they were added
-abbrev pub pairs_of : {X : Type 0} → Pairs X → List Pair
+abbrev pub pairs_of : {X : Type 0} {kind : Ghosts X} → Pairs X kind → List Pair
 pairs_of x = take x.count x.rows
 
 -- a set has both members of a pair

@@ -7,6 +7,7 @@ ghost use Rattle.sets.specs.declared.refusal.MaskRefusal.TheVariants.{OutsideKin
 ghost use Rattle.std.specs.Cmp.Rules.{comparing};
 ghost use Rattle.std.proofs.Common.{rules};
 ghost use Rattle.std.specs.Cmp as Keys;
+ghost use Rattle.std.specs.Ordering.{on};
 
 use crate::kind::Kind;
 use crate::refusal::MaskRefusal;
@@ -139,7 +140,7 @@ impl<K: Kind> Set<K> {
 
 // Sets are equal where they have the same members.
 impl<K: Kind> PartialEq for Set<K> {
-    ghost equals = { λ a b r. Decides r (mask K.Kind.count a ≡ mask K.Kind.count b) };
+    ghost eq = { on (mask K.Kind.count) (λ a b. a == b) };
 
     ghost laws = { Keys.partial_equiv_from_equiv (Prim.search (comparing, rules)) };
 

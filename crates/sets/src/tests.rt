@@ -28,47 +28,51 @@ impl Kind for Clients {
 }
 
 // The highest member is one, and the place behind it is none.
-fn highest_member<K: Kind>(rt: &impl Abort, count: u32, highest: u32) -> Result<(), Fail> {
+fn highest_member<K: Kind>(rt: &impl Abort, kind: &str, count: u32, highest: u32) {
     let set: Set<K> = Set::one(highest);
-    assert_eq!(rt; set.len(), 1);
-    assert!(rt; set.has(highest));
-    assert_eq!(rt; set.next_member(0), highest);
-    assert_eq!(rt; set.next_member(count), count);
-    assert_eq!(rt; set.next_member(u32::MAX), count);
-    assert_eq!(rt; set.without(highest), Set::empty());
+    assert_eq!(rt; set.len(), 1, "{kind}");
+    assert!(rt; set.has(highest), "{kind}");
+    assert_eq!(rt; set.next_member(0), highest, "{kind}");
+    assert_eq!(rt; set.next_member(count), count, "{kind}");
+    assert_eq!(rt; set.next_member(u32::MAX), count, "{kind}");
+    assert_eq!(rt; set.without(highest), Set::empty(), "{kind}");
     let outside: Set<K> = Set::one(count);
-    assert_eq!(rt; outside, Set::empty());
-    assert!(rt; !set.has(count));
-    assert_eq!(rt; set.with(count), set);
-    Ok(())
+    assert_eq!(rt; outside, Set::empty(), "{kind}");
+    assert!(rt; !set.has(count), "{kind}");
+    assert_eq!(rt; set.with(count), set, "{kind}");
 }
 
 #[test]
-fn highest_members(rt: HostRuntime) -> Result<(), Fail> {
-    highest_member::<Roles>(&rt, 32, 31).note("roles")?;
-    highest_member::<Acts>(&rt, 16, 15).note("acts")?;
-    highest_member::<Clients>(&rt, 48, 47).note("clients")
+fn highest_members(rt: HostRuntime) {
+    highest_member::<Roles>(&rt, "roles", 32, 31);
+    highest_member::<Acts>(&rt, "acts", 16, 15);
+    highest_member::<Clients>(&rt, "clients", 48, 47);
 }
 
 // A pair and a limit of the two highest members.
-fn highest_rows<K: Kind>(rt: &impl Abort, highest: u32, below: u32) -> Result<(), Fail> {
+fn highest_rows<K: Kind>(
+    rt: &impl Abort,
+    kind: &str,
+    highest: u32,
+    below: u32,
+) -> Result<(), Fail> {
     let two: Set<K> = Set::one(highest).with(below);
     let mut pairs: Pairs<K> = Pairs::new();
     pairs.add(highest, below)?;
-    assert!(rt; !pairs.allows(two));
-    assert!(rt; pairs.allows(Set::one(highest)));
+    assert!(rt; !pairs.allows(two), "{kind}");
+    assert!(rt; pairs.allows(Set::one(highest)), "{kind}");
     let mut limits: Limits<K> = Limits::new();
     limits.add(two.mask(), 1)?;
-    assert!(rt; !limits.allows(two));
-    assert!(rt; limits.allows(Set::one(highest)));
+    assert!(rt; !limits.allows(two), "{kind}");
+    assert!(rt; limits.allows(Set::one(highest)), "{kind}");
     Ok(())
 }
 
 #[test]
 fn rows_of_the_highest_members(rt: HostRuntime) -> Result<(), Fail> {
-    highest_rows::<Roles>(&rt, 31, 30).note("roles")?;
-    highest_rows::<Acts>(&rt, 15, 14).note("acts")?;
-    highest_rows::<Clients>(&rt, 47, 46).note("clients")
+    highest_rows::<Roles>(&rt, "roles", 31, 30)?;
+    highest_rows::<Acts>(&rt, "acts", 15, 14)?;
+    highest_rows::<Clients>(&rt, "clients", 47, 46)
 }
 
 #[test]

@@ -19,7 +19,7 @@ three_fail = refl
 pub returns : goal.returns
 unfolding row
 returns c =
-    let rows : take c.add.new.self.count c.add.new.self.rows ≡ row = c.in-ok-add.ensures.1 ∙ ap (λ xs. xs ++ row) c.new-limits.ensures in
-    let two = c.allows.ensures.answer ∙ ap (λ s. not (some_limit s (take c.add.new.self.count c.add.new.self.rows))) c.in-ok-two.ensures.2 ∙ ap (λ xs. not (some_limit 11 xs)) rows ∙ two_pass in
-    let three = c.allows-2.ensures.answer ∙ ap (λ s. not (some_limit s (take c.add.new.self.count c.add.new.self.rows))) c.in-ok-three.ensures.2 ∙ ap (λ xs. not (some_limit 7 xs)) rows ∙ three_fail in
+    let rows : take c.add.new.self.count c.add.new.self.rows ≡ row = c.in_ok-add.ensures.1 ∙ ap (λ xs. xs ++ row) c.new-limits.ensures in
+    let two = c.allows.ensures.answer ∙ ap (λ s. not (some_limit s (take c.add.new.self.count c.add.new.self.rows))) c.in_ok-two.ensures.2 ∙ ap (λ xs. not (some_limit 11 xs)) rows ∙ two_pass in
+    let three = c.allows-2.ensures.answer ∙ ap (λ s. not (some_limit s (take c.add.new.self.count c.add.new.self.rows))) c.in_ok-three.ensures.2 ∙ ap (λ xs. not (some_limit 7 xs)) rows ∙ three_fail in
     cc

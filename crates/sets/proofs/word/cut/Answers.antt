@@ -4,6 +4,6 @@ use Rattle.sets.proofs.word.cut.Goals as goal
 pub returns : goal.returns
 returns c =
     let n = c.args.count in
-    let r = c.first_places_lem.result in
-    let e = c.first_places_lem.ensures in
+    let r = c.first_places.result in
+    let e = c.first_places.ensures in
     record { value = cut_value n r c.args.word e; again = cut_again n r c.args.word e; within = cut_within n r c.args.word e }
