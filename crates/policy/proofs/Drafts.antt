@@ -10,6 +10,7 @@ use Rattle.policy.specs.declared.refusal.DraftRefusal.TheVariants.{OutOfRange, T
 use Rattle.policy.proofs.Tables.{throughout_push, throughout_take}
 use Rattle.sets.specs.LimitRows.{limit_refusal, limits_of}
 use Rattle.sets.specs.PairRows.{pair_refusal, pairs_of}
+use Rattle.sets.specs.declared.kind.Kind.{Ghosts}
 use Rattle.sets.specs.declared.limits.table.Limit.{Limit}
 use Rattle.sets.specs.declared.limits.table.Limits.{Limits}
 use Rattle.sets.specs.declared.pairs.table.Pair.{Pair}
@@ -56,7 +57,7 @@ pair_like n place held first second a b narrow =
     by false true = refl
     by false false = refl
 
-module _ {X : Type 0} (x : Pairs X) where
+module _ {X : Type 0} {kind : Ghosts X} (x : Pairs X kind) where
   pairs_held : length (pairs_of x) ≡ x.count
   pairs_held = length-take-le x.count x.rows (omega (arith, x.few, x.whole))
 
@@ -70,7 +71,7 @@ module _ {X : Type 0} (x : Pairs X) where
   pub pair_checks : (n place first second : ℕ) → first < place → second < place → place ≤ n → pair_refusal_below place (length (pairs_of x)) first second ≡ refused (pair_refusal n x.count first second)
   pair_checks n place first second a b narrow = ap (λ held. pair_refusal_below place held first second) pairs_held ∙ pair_like n place x.count first second a b narrow
 
-pub pairs_exist : {X : Type 0} (n : ℕ) (xs : List Pair) (x : Pair) (more : Pairs X) → Throughout (PairMembers n) xs → pairs_of more ≡ xs ++ x ∷ [] → PairMembers n x → Throughout (PairMembers n) (pairs_of more)
+pub pairs_exist : {X : Type 0} {kind : Ghosts X} (n : ℕ) (xs : List Pair) (x : Pair) (more : Pairs X kind) → Throughout (PairMembers n) xs → pairs_of more ≡ xs ++ x ∷ [] → PairMembers n x → Throughout (PairMembers n) (pairs_of more)
 pairs_exist n xs x more h e p = subst (Throughout (PairMembers n)) (sym e) (throughout_push (PairMembers n) xs x h p)
 
 -- ---- limits
@@ -86,7 +87,7 @@ limit_like n place held members most a narrow =
     by true false = refl
     by false room = refl
 
-module _ {X : Type 0} (x : Limits X) where
+module _ {X : Type 0} {kind : Ghosts X} (x : Limits X kind) where
   limits_held : length (limits_of x) ≡ x.count
   limits_held = length-take-le x.count x.rows (omega (arith, x.few, x.whole))
 
@@ -104,7 +105,7 @@ module _ {X : Type 0} (x : Limits X) where
       by true e = refl
       by false e = absurd (none_some e)
 
-pub limits_exist : {X : Type 0} (n : ℕ) (xs : List Limit) (x : Limit) (more : Limits X) → Throughout (LimitMembers n) xs → limits_of more ≡ xs ++ x ∷ [] → LimitMembers n x → Throughout (LimitMembers n) (limits_of more)
+pub limits_exist : {X : Type 0} {kind : Ghosts X} (n : ℕ) (xs : List Limit) (x : Limit) (more : Limits X kind) → Throughout (LimitMembers n) xs → limits_of more ≡ xs ++ x ∷ [] → LimitMembers n x → Throughout (LimitMembers n) (limits_of more)
 limits_exist n xs x more h e p = subst (Throughout (LimitMembers n)) (sym e) (throughout_push (LimitMembers n) xs x h p)
 
 -- what exists among so many members exists among as many

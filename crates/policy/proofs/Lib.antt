@@ -1,7 +1,6 @@
 pub mod Below
 pub mod Drafts
 pub mod Rules
-pub mod Same
 pub mod Sound
 pub mod Tables
 pub mod TwoSteps

@@ -41,14 +41,34 @@ kept d = record {
   apart = d.apart;
 }
 
--- the same, in the order of the type's fields
+-- the same, under the names of the type's fields
 abbrev pub Promised : Policy → Type 0
-Promised p =
-    Few p × (FewRows p × (Lower p × (ActsExist p × (StepsExist p × (MembersExist Standing p × (MembersExist Session p × (MembersExist History p × (RulesExist p × (Apart p × Unit {0})))))))))
+Promised p = record {
+  few : Few p;
+  few_rows : FewRows p;
+  lower : Lower p;
+  acts_exist : ActsExist p;
+  steps_exist : StepsExist p;
+  standing_exist : MembersExist Standing p;
+  session_exist : MembersExist Session p;
+  history_exist : MembersExist History p;
+  rules_exist : RulesExist p;
+  apart : Apart p;
+}
 
 pub promised : (p : Policy) → Sound p → Promised p
-promised p s =
-    (s.few, (s.few_rows, (s.lower, (s.acts, (s.steps, (s.standing, (s.session, (s.history, (s.rules, (s.apart, tt))))))))))
+promised p s = record {
+  few = s.few;
+  few_rows = s.few_rows;
+  lower = s.lower;
+  acts_exist = s.acts;
+  steps_exist = s.steps;
+  standing_exist = s.standing;
+  session_exist = s.session;
+  history_exist = s.history;
+  rules_exist = s.rules;
+  apart = s.apart;
+}
 
 pub sound_step : (p : Policy) (x : Step) (xs : List Step) → xs ≡ p.steps ++ x ∷ [] → Falls x → StepEnds (count p) x → length p.steps < 256 → Sound p → Promised (with_steps xs p)
 sound_step p x xs e falls ends room s = subst (λ (ys : List Step). Promised (with_steps ys p)) (sym e) (promised (with_steps (p.steps ++ x ∷ []) p) (record {

@@ -8,6 +8,7 @@ use Rattle.policy.specs.declared.refusal.DraftRefusal.TheVariants.{OutOfRange, T
 use Rattle.policy.specs.declared.scope.Scope.{Scope}
 use Rattle.sets.specs.LimitRows.{limits_of}
 use Rattle.sets.specs.PairRows.{pairs_of}
+use Rattle.sets.specs.declared.kind.Kind.{Ghosts}
 use Rattle.sets.specs.declared.limits.table.Limit.{Limit}
 use Rattle.sets.specs.declared.limits.table.Limits.{Limits}
 use Rattle.sets.specs.declared.pairs.table.Pair.{Pair}
@@ -50,14 +51,14 @@ Adds refusal added unchanged (Ok a) = (refusal ≡ None) × added a
 Adds refusal added unchanged (Err e) = (refusal ≡ Some e) × unchanged
 
 -- what a table of pairs with one more is, or why there is none, where members are to be below n
-abbrev pub WithPair : {X : Type 0} → ℕ → List Pair → ℕ → ℕ → Result (Pairs X) DraftRefusal → Type 0
+abbrev pub WithPair : {X : Type 0} {kind : Ghosts X} → ℕ → List Pair → ℕ → ℕ → Result (Pairs X kind) DraftRefusal → Type 0
 WithPair n pairs first second r =
     MatchResult r
     (λ more. (pair_refusal_below n (length pairs) first second ≡ None) × (pairs_of more ≡ pairs ++ record { first = first; second = second } ∷ []) × Throughout (PairMembers n) (pairs_of more))
     (λ e. pair_refusal_below n (length pairs) first second ≡ Some e)
 
 -- the same of limits
-abbrev pub WithLimit : {X : Type 0} → ℕ → List Limit → ℕ → ℕ → Result (Limits X) DraftRefusal → Type 0
+abbrev pub WithLimit : {X : Type 0} {kind : Ghosts X} → ℕ → List Limit → ℕ → ℕ → Result (Limits X kind) DraftRefusal → Type 0
 WithLimit n limits members most r =
     MatchResult r
     (λ more. (limit_refusal_below n (length limits) members most ≡ None) × (limits_of more ≡ limits ++ record { members = members; most = most } ∷ []) × Throughout (LimitMembers n) (limits_of more))

@@ -11,6 +11,7 @@ use Rattle.policy.specs.declared.scope.Scope.TheVariants.{Standing, Session, His
 use Rattle.sets.specs.LimitRows.{limits_of}
 use Rattle.sets.specs.PairRows.{pairs_of}
 use Rattle.sets.specs.declared.both.Both.{Both}
+use Rattle.sets.specs.declared.kind.Kind.{Ghosts}
 use Rattle.sets.specs.declared.limits.table.Limit.{Limit}
 use Rattle.sets.specs.declared.limits.table.Limits.{Limits}
 use Rattle.sets.specs.declared.pairs.table.Pair.{Pair}
@@ -32,7 +33,7 @@ pub record Policy : Type 0 where
   pub rules : List Rule
 
 -- what the tables of the code say
-abbrev pub rows : {X : Type 0} → Both (Pairs X) (Limits X) → Rows
+abbrev pub rows : {X : Type 0} {kind : Ghosts X} → Both (Pairs X kind) (Limits X kind) → Rows
 rows both = record { pairs = pairs_of both.left; limits = limits_of both.right }
 
 abbrev pub policy : Contents → Policy

@@ -1,5 +1,5 @@
 // The table of limits, and what its type promises of it.
-ghost use Rattle.std.specs.Prelude.{◌≡◌, ◌-◌, ◌≤◌, drop, replicate};
+ghost use Rattle.std.specs.Prelude.{◌≡◌, ◌-◌, ◌≤◌, drop, length, replicate};
 ghost use Rattle.std.specs.List.{AllWithin};
 
 use crate::kind::Kind;
@@ -30,6 +30,7 @@ pub struct Limits<K: Kind> {
     pub(super) count: usize,
     pub(super) kind: PhantomData<K>,
     ghost few: { count ≤ 16 },
+    ghost whole: { length rows ≡ 16 },
     ghost low: { AllWithin (λ l. l.most ≤ 31) rows 0 count },
     ghost clean: { drop count rows ≡ replicate (16 - count) (record { members = 0; most = 0 }) },
 }

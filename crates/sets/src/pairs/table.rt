@@ -1,5 +1,5 @@
 // The table of pairs, and what its type promises of it.
-ghost use Rattle.std.specs.Prelude.{◌≡◌, ◌-◌, ◌≤◌, ◌≢◌, drop, replicate};
+ghost use Rattle.std.specs.Prelude.{◌≡◌, ◌-◌, ◌≤◌, ◌≢◌, drop, length, replicate};
 ghost use Rattle.std.specs.List.{AllWithin};
 
 use crate::kind::Kind;
@@ -27,6 +27,7 @@ pub struct Pairs<K: Kind> {
     pub(super) count: usize,
     pub(super) kind: PhantomData<K>,
     ghost few: { count ≤ 128 },
+    ghost whole: { length rows ≡ 128 },
     ghost apart: { AllWithin (λ p. p.first ≢ p.second) rows 0 count },
     ghost clean: { drop count rows ≡ replicate (128 - count) (record { first = 0; second = 0 }) },
 }

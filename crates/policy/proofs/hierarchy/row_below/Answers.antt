@@ -9,7 +9,7 @@ pub loop-step-preserved : goal.loop-step-preserved
 loop-step-preserved c =
     elim c.if-step-role.branch [
       | then-step-role w ↦
-          rw w.row-is (follow c.args.steps.now c.args.role c.loop-step.step-index _ c.loop-step-test.true c.loop-step.row w.union-row.result _ c.args.lower-rows.now c.requires.lower c.requires.finished w.if-step-role.true w.union-row.ensures.members c.loop-step.invariant)
+          rw w.row-is (follow c.args.steps.now c.args.role c.loop-step.step-index _ c.loop-step-test.true c.loop-step.row w.union-row.result _ c.args.lower_rows.now c.requires.lower c.requires.finished w.if-step-role.true w.union-row.ensures.members c.loop-step.invariant)
       | else-step-role w ↦
           rw w.row-is (skip c.args.steps.now c.args.role c.loop-step.step-index _ c.loop-step-test.true c.loop-step.row w.if-step-role.false c.loop-step.invariant)
     ]
@@ -17,5 +17,5 @@ loop-step-preserved c =
 pub returns : goal.returns
 returns c = finish c.args.steps.now c.args.role c.loop-step.step-index c.loop-step.row c.loop-step-test.false c.loop-step.invariant
 
-pub bounds-lower-rows-step : goal.bounds-lower-rows-step
-bounds-lower-rows-step c = junior_below c.args.steps.now c.args.role c.loop-step.step-index _ c.loop-step-test.true 32 c.requires.lower c.if-step-role.true c.requires.few
+pub bounds-lower_rows-step : goal.bounds-lower_rows-step
+bounds-lower_rows-step c = junior_below c.args.steps.now c.args.role c.loop-step.step-index _ c.loop-step-test.true 32 c.requires.lower c.if-step-role.true c.requires.few

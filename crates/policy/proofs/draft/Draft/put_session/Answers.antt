@@ -3,8 +3,8 @@ use Rattle.policy.proofs.Drafts.{limits_few, pairs_apart, pairs_few}
 use Rattle.policy.proofs.Sound.{kept, sound_session}
 use Rattle.policy.proofs.draft.Draft.put_session.Goals as goal
 
-pub invariant-of-self : goal.invariant-of-self
-invariant-of-self c =
+pub invariant_of-self : goal.invariant_of-self
+invariant_of-self c =
     let old = c.args.self.now in
     let new = c.args.session in
-    (tt, sound_session (policy old.contents) (rows new) (pairs_few new.left, limits_few new.right) (pairs_apart new.left) (kept old) c.requires.pairs c.requires.limits)
+    sound_session (policy old.contents) (rows new) (pairs_few new.left, limits_few new.right) (pairs_apart new.left) (kept old) c.requires.pairs c.requires.limits

@@ -17,14 +17,14 @@ fits-requires c =
 pub returns-then-fits : goal.returns-then-fits
 returns-then-fits c =
     let p = policy c.args.self.now.contents in
-    walked_found (Fits p c.args.basis c.args.role (mask 32 c.args.own_val) c.args.depth) p.rules c.rules-rule-items.result.now c.rules-rule-items.ensures c.loop-rule.rule-index _ c.fits.result c.loop-rule-test.true c.fits.ensures c.if-fits.true
+    walked_found (Fits p c.args.basis c.args.role (mask 32 c.args.own) c.args.depth) p.rules c.rules-rule-items.result.now c.rules-rule-items.ensures c.loop-rule.rule-index _ c.fits.result c.loop-rule-test.true c.fits.ensures c.if-fits.true
 
 pub loop-rule-preserved : goal.loop-rule-preserved
 loop-rule-preserved c =
     let p = policy c.args.self.now.contents in
-    walked_on (Fits p c.args.basis c.args.role (mask 32 c.args.own_val) c.args.depth) p.rules c.rules-rule-items.result.now c.rules-rule-items.ensures c.loop-rule.rule-index _ c.fits.result c.loop-rule-test.true c.fits.ensures c.if-fits.false c.loop-rule.invariant
+    walked_on (Fits p c.args.basis c.args.role (mask 32 c.args.own) c.args.depth) p.rules c.rules-rule-items.result.now c.rules-rule-items.ensures c.loop-rule.rule-index _ c.fits.result c.loop-rule-test.true c.fits.ensures c.if-fits.false c.loop-rule.invariant
 
 pub returns : goal.returns
 returns c =
     let p = policy c.args.self.now.contents in
-    walked_past (Fits p c.args.basis c.args.role (mask 32 c.args.own_val) c.args.depth) p.rules c.rules-rule-items.result.now c.rules-rule-items.ensures c.loop-rule.rule-index no_rule c.loop-rule-test.false c.loop-rule.invariant
+    walked_past (Fits p c.args.basis c.args.role (mask 32 c.args.own) c.args.depth) p.rules c.rules-rule-items.result.now c.rules-rule-items.ensures c.loop-rule.rule-index no_rule c.loop-rule-test.false c.loop-rule.invariant

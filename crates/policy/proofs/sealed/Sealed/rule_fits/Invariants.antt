@@ -6,4 +6,4 @@ use Rattle.sets.specs.Sets.{mask}
 
 -- no rule so far fits
 abbrev pub invariant-loop-rule : goal.invariant-loop-rule
-invariant-loop-rule l = NoneOf (Fits (policy l.self.contents) l.basis l.role (mask 32 l.own_val) l.depth) (policy l.self.contents).rules l.rule-index
+invariant-loop-rule l = NoneOf (Fits (policy l.self.contents) l.basis l.role (mask 32 l.own) l.depth) (policy l.self.contents).rules l.rule-index

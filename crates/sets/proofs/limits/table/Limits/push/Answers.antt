@@ -1,4 +1,4 @@
-use Rattle.std.proofs.Common.{◌<◌, ◌≤◌, length, arith, rules}
+use Rattle.std.proofs.Common.{◌<◌, ◌≤◌, ◌∙◌, length, length-set, arith, rules}
 use Rattle.std.proofs.lemmas.List.Elements.{AllWithin-more_set}
 use Rattle.std.proofs.lemmas.List.{take_more_set}
 use Rattle.sets.specs.RowsLemmas.{clean_set}
@@ -10,6 +10,7 @@ invariant_of-self g c =
     let within : self.count < length self.rows = search rules in
     record {
       few = omega arith;
+      whole = length-set self.rows self.count c.args.row ∙ self.whole;
       low = AllWithin-more_set self.rows self.count c.args.row within (λ row. row.most ≤ 31) self.low c.requires.low;
       clean = clean_set 16 self.count self.rows _ c.args.row self.clean;
     }
