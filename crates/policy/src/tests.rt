@@ -114,25 +114,35 @@ fn last_pair(rt: &impl Abort, scope: Scope, place: u32) -> Result<(), Fail> {
     for _ in 0..128 {
         draft.add_pair(scope, 0, 1)?;
     }
-    assert_eq!(rt; draft.add_pair(scope, 0, 1), Err(DraftRefusal::TableFull));
-    assert_eq!(rt; draft.add_pair(scope, 1, 1), Err(DraftRefusal::EqualPair));
+    assert_eq!(rt;
+        draft.add_pair(scope, 0, 1),
+        Err(DraftRefusal::TableFull),
+        "{scope:?}"
+    );
+    assert_eq!(rt;
+        draft.add_pair(scope, 1, 1),
+        Err(DraftRefusal::EqualPair),
+        "{scope:?}"
+    );
     assert_eq!(rt;
         draft.add_pair(scope, 1, place),
-        Err(DraftRefusal::OutOfRange)
+        Err(DraftRefusal::OutOfRange),
+        "{scope:?}"
     );
     assert_eq!(rt;
         draft.add_pair(scope, place, place),
-        Err(DraftRefusal::OutOfRange)
+        Err(DraftRefusal::OutOfRange),
+        "{scope:?}"
     );
-    assert_eq!(rt; draft.seal().pairs(scope).len(), 128);
+    assert_eq!(rt; draft.seal().pairs(scope).len(), 128, "{scope:?}");
     Ok(())
 }
 
 #[test]
 fn the_last_pairs(rt: HostRuntime) -> Result<(), Fail> {
-    last_pair(&rt, Scope::Standing, 20).note("standing")?;
-    last_pair(&rt, Scope::Session, 20).note("session")?;
-    last_pair(&rt, Scope::History, 16).note("history")
+    last_pair(&rt, Scope::Standing, 20)?;
+    last_pair(&rt, Scope::Session, 20)?;
+    last_pair(&rt, Scope::History, 16)
 }
 
 // 16 limits are taken and no more, by an exclusion with these members and no more.
@@ -141,28 +151,35 @@ fn last_limit(rt: &impl Abort, scope: Scope, members: u64, outside: u64) -> Resu
     for _ in 0..16 {
         draft.add_limit(scope, members, 31)?;
     }
-    assert_eq!(rt; draft.add_limit(scope, 1, 0), Err(DraftRefusal::TableFull));
+    assert_eq!(rt;
+        draft.add_limit(scope, 1, 0),
+        Err(DraftRefusal::TableFull),
+        "{scope:?}"
+    );
     assert_eq!(rt;
         draft.add_limit(scope, 1, 32),
-        Err(DraftRefusal::OutOfRange)
+        Err(DraftRefusal::OutOfRange),
+        "{scope:?}"
     );
     assert_eq!(rt;
         draft.add_limit(scope, outside, 0),
-        Err(DraftRefusal::OutOfRange)
+        Err(DraftRefusal::OutOfRange),
+        "{scope:?}"
     );
     assert_eq!(rt;
         draft.add_limit(scope, u64::MAX, 0),
-        Err(DraftRefusal::OutOfRange)
+        Err(DraftRefusal::OutOfRange),
+        "{scope:?}"
     );
-    assert_eq!(rt; draft.seal().limits(scope).len(), 16);
+    assert_eq!(rt; draft.seal().limits(scope).len(), 16, "{scope:?}");
     Ok(())
 }
 
 #[test]
 fn the_last_limits(rt: HostRuntime) -> Result<(), Fail> {
-    last_limit(&rt, Scope::Standing, 0xf_ffff, 0x10_0000).note("standing")?;
-    last_limit(&rt, Scope::Session, 0xf_ffff, 0x10_0000).note("session")?;
-    last_limit(&rt, Scope::History, 0xffff, 0x1_0000).note("history")
+    last_limit(&rt, Scope::Standing, 0xf_ffff, 0x10_0000)?;
+    last_limit(&rt, Scope::Session, 0xf_ffff, 0x10_0000)?;
+    last_limit(&rt, Scope::History, 0xffff, 0x1_0000)
 }
 
 #[test]
