@@ -1,5 +1,5 @@
 -- Tables of rows: what some row, no row and one row more mean, for every kind of row.
-use Rattle.std.specs.Prelude.{◌≡◌, ℕ, ◌+◌, ◌-◌, ◌<◌, ◌≤◌, Bool, true, false, not, ◌||◌, List, [], ◌∷◌, ◌++◌, length, take, drop, set, replicate, Decides, slice_index_or, slice_set, refl}
+use Rattle.std.specs.Prelude.{◌≡◌, ℕ, ◌+◌, ◌-◌, ◌<◌, ◌≤◌, Bool, true, false, not, ◌||◌, List, [], ◌∷◌, ◌++◌, length, take, drop, replicate, Decides, slice_index_or, slice_set, refl}
 use Rattle.std.proofs.Common.{⊎_elim, sym, ap, ◌∙◌, arith}
 use Rattle.sets.specs.Rows.{NoExactly, SomeRow, some}
 use Rattle.std.proofs.lemmas.List.{drop-drop, drop_more, drop-replicate, drop-set-lt, take_all, take-append-drop, take_more}
