@@ -3,8 +3,7 @@
 
 # Proves and builds the program, and runs it on the list of proposals that is kept with it.
 run:
-	rt check quotation
-	target/bin/quotation < crates/quotation/stdin
+	cd crates/quotation && rt run < stdin
 
 # The gate.
 test:

@@ -5,6 +5,7 @@ use crate::draft::Draft;
 use crate::refusal::DraftRefusal;
 use crate::role::Marks;
 use crate::rule::Rule;
+use crate::sealed::Sealed;
 use sets::set::Set;
 
 // Steps from role 2 to 1 and from 1 to 0: the roles below 2 are 0, 1 and 2, and below 0 is 0, as masks.
@@ -21,7 +22,7 @@ pub fn two_steps_down() -> Result<(u64, u64), DraftRefusal>
     draft.add_role(0, marks)?;
     draft.add_step(2, 1)?;
     draft.add_step(1, 0)?;
-    let policy = draft.seal();
+    let policy: Sealed = draft.seal();
     Ok((policy.below(2).mask(), policy.below(0).mask()))
 }
 
