@@ -34,7 +34,7 @@ pub enum Verdict {
 
 impl StudioRules {
     pub fn new() -> Result<StudioRules, RowRefusal>
-        ensures { OnErr result (⊥) }
+        ensures { OnErr result ⊥ }
     {
         let mut pairs: Pairs<Acts> = Pairs::new();
         pairs.add(Act::Price.number(), Act::Check.number())?;
