@@ -19,6 +19,7 @@ pub struct Person {
 
 impl Person {
     // Somebody who has done nothing yet.
+    #[tactic(auto, using(crate::proofs::Studio::nothing_kept))]
     pub fn new(name: String) -> Person
         ensures name { result.name ≡ name }
         ensures done { mask 16 result.done ≡ 0 }
