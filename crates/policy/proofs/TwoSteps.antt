@@ -5,7 +5,7 @@ use Rattle.policy.specs.Policies.{BelowIn, Policy, count}
 use Rattle.policy.specs.Tables.{Throughout}
 use Rattle.policy.specs.declared.hierarchy.Step.{Step}
 use Rattle.sets.specs.Masks.{Member, has}
-use Rattle.sets.specs.MasksLemmas.{has_past, same_mask}
+use Rattle.sets.proofs.Masks.{has_past, same_mask}
 use Rattle.std.specs.List.{ContainsAt as Has}
 use Rattle.std.proofs.lemmas.Bool.{both_ways, cases_lt}
 use Rattle.std.proofs.lemmas.Bool.Decides.{same_from_decides}

@@ -5,7 +5,8 @@ use lib.Bits.{bit_and, bit_or, and_mask, and_mod, or_mod}
 use lib.Count.{count_trailing_zeros}
 use lib.Pow.{pow-lt}
 use Rattle.sets.specs.Masks.{Inside, Next, has, minus, one}
-use Rattle.sets.specs.MasksLemmas.{has_and, has_minus, has_mod, has_not, has_one, has_or, has_past, has_shr, has_zero, same_mask, trailing_member, trailing_none}
+use Rattle.sets.specs.MasksLemmas.{has_and, has_zero}
+use Rattle.sets.proofs.Masks.{has_minus, has_mod, has_not, has_one, has_or, has_past, has_shr, same_mask, trailing_member, trailing_none}
 use Rattle.std.proofs.lemmas.Nat.{one_shl}
 use Rattle.std.proofs.lemmas.Bool.{and_parts, cases_lt, eq-eqb, eqb-true, false≢true, le-ltb, lt-ltb, ltb-false, ltb-true}
 

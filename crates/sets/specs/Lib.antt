@@ -1,10 +1,10 @@
 pub mod LimitRows
+pub mod LimitRowsLemmas
 pub mod Masks
+pub mod MasksLemmas
 pub mod PairRows
+pub mod PairRowsLemmas
 pub mod Refusals
 pub mod Rows
-pub mod Sets
-pub mod LimitRowsLemmas
-pub mod MasksLemmas
 pub mod RowsLemmas
-pub mod PairRowsLemmas
+pub mod Sets

@@ -1,7 +1,7 @@
 use Rattle.std.proofs.Common.{◌≡◌, true, false, not, sym, ap, ◌∙◌}
 use Rattle.sets.specs.Rows.{some}
 use Rattle.sets.specs.Sets.{mask}
-use Rattle.sets.specs.RowsLemmas.{some_all, some_found, some_more, walked}
+use Rattle.sets.proofs.Rows.{some_all, some_found, some_more, walked}
 use Rattle.sets.proofs.row.rows_allow.Goals as goal
 
 pub returns-then-forbids : goal.returns-then-forbids

@@ -1,5 +1,5 @@
 use Rattle.std.proofs.Common.{refl}
-use Rattle.sets.specs.MasksLemmas.{ones_tally}
+use Rattle.sets.proofs.Masks.{ones_tally}
 use Rattle.sets.proofs.word.count_places.Goals as goal
 
 pub returns : goal.returns

@@ -1,7 +1,7 @@
 use Rattle.std.proofs.Common.{sym, refl, ◌∙◌, arith}
 use Rattle.std.proofs.lemmas.Bool.{le-ltb}
 use Rattle.sets.specs.Masks.{has}
-use Rattle.sets.specs.MasksLemmas.{has_past}
+use Rattle.sets.proofs.Masks.{has_past}
 use Rattle.sets.proofs.word.has_place.Goals as goal
 
 pub returns-then-place-lt64 : goal.returns-then-place-lt64

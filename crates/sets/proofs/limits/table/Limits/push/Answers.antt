@@ -1,7 +1,7 @@
 use Rattle.std.proofs.Common.{◌<◌, ◌≤◌, ◌∙◌, length, length-set, arith, rules}
 use Rattle.std.proofs.lemmas.List.Elements.{AllWithin-more_set}
 use Rattle.std.proofs.lemmas.List.{take_more_set}
-use Rattle.sets.specs.RowsLemmas.{clean_set}
+use Rattle.sets.proofs.Rows.{clean_set}
 use Rattle.sets.proofs.limits.table.Limits.push.Goals as goal
 
 pub invariant_of-self : goal.invariant_of-self
