@@ -1,3 +1,4 @@
 pub mod Masks
 pub mod Rows
+pub mod Tables
 pub mod Words

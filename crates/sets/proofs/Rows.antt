@@ -1,47 +1,36 @@
--- Tables of rows: what some row, no row and one row more mean, for every kind of row.
-use Rattle.std.specs.Prelude.{◌≡◌, ℕ, ◌+◌, ◌-◌, ◌<◌, ◌≤◌, Bool, true, false, not, ◌||◌, List, [], ◌∷◌, ◌++◌, length, take, drop, replicate, Decides, slice_index_or, slice_set, refl}
-use Rattle.std.proofs.Common.{sym, ap, ◌∙◌, arith}
-use Rattle.sets.specs.Rows.{NoExactly, SomeRow, some}
-use Rattle.std.proofs.lemmas.List.{drop-drop, drop_more, drop-replicate, drop-set-lt, take_all, take-append-drop, take_more}
-use Rattle.std.proofs.lemmas.Bool.{not-false, or_from, or_left, or_right}
+-- Tables of rows: what it means that some row passes a test, for every kind of row.
+use Rattle.std.proofs.Math.Bool.{Bool-set}
+use mathlib.Core.HLevel.{is_prop→PathP}
+use Rattle.std.specs.Prelude.{◌≡◌, ℕ, ◌<◌, ◌≤◌, Bool, false, not, List, None, Ok, Err, Option, Result, MatchResult, Decides, refl}
+use Rattle.std.proofs.Common.{sym, ap, ◌∙◌}
+use Rattle.std.specs.List.{list_any}
+use Rattle.sets.specs.Rows.{Adds, NoExactly, SomeRow, is_fault, row_refusal}
+use Rattle.sets.specs.Tables.{items_of}
+use Rattle.sets.specs.declared.kind.Kind.{Ghosts as Kinds}
+use Rattle.sets.specs.declared.row.Entry.{Ghosts as Entries}
+use Rattle.sets.specs.declared.refusal.RowRefusal.{RowRefusal}
+use Rattle.sets.specs.declared.refusal.RowRefusal.TheVariants.{TableFull}
+use Rattle.sets.specs.declared.row.Rows.{Rows}
+use Rattle.sets.specs.declared.table.Blank.{Ghosts as Blanks}
+use Rattle.std.specs.declared.default.Default.{Ghosts as Defaults}
+use Rattle.std.proofs.lemmas.Bool.{le-ltb, lt-ltb, not-false}
 use Rattle.std.proofs.lemmas.Bool.Decides.{Decides-by_or}
 
-or_assoc : (x y z : Bool) → (x || (y || z)) ≡ ((x || y) || z)
-or_assoc true y z = refl
-or_assoc false y z = refl
+-- an answer that is no exactly where some row passes a test, as a statement
+pub walked : {R : Type 0} (test : R → Bool) (P : R → Type 0) → ((row : R) → Decides (test row) (P row)) → (rows : List R) (r : Bool) → r ≡ not (list_any test rows) → NoExactly r (SomeRow P rows)
+walked test P each rows r e =
+    let d : Decides (list_any test rows) (SomeRow P rows) = Decides-by_or test P (list_any test) each refl (λ _ _. refl) rows in
+    (λ f. d.0 (not-false (list_any test rows) (sym e ∙ f)), λ p. e ∙ ap not (d.1 p))
 
-module _ {R : Type 0} where
-  pub some_append : (test : R → Bool) (xs ys : List R) → some test (xs ++ ys) ≡ (some test xs || some test ys)
-  some_append test [] ys = refl
-  some_append test (x ∷ xs) ys = ap (λ b. test x || b) (some_append test xs ys) ∙ or_assoc (test x) (some test xs) (some test ys)
+-- tables with the same rows are the same value, whatever proofs their ghost fields hold
+pub same_rows : {K R : Type 0} {n : ℕ} {kind : Kinds K} {entry : Entries R} {blank : Blanks R} {default : Defaults R} {a b : Rows K R n kind entry blank default} → a.rows ≡ b.rows → a ≡ b
+same_rows {kind = kind} {entry = entry} {a = a} {b = b} e = λ i. record {
+  rows = e i;
+  kind = record {};
+  sound = is_prop→PathP (λ j. list_any (λ row. is_fault (entry.fault kind.COUNT row)) (items_of (e j)) ≡ false) (λ j. Bool-set _ _) a.sound b.sound i;
+}
 
-  -- a row found at its place
-  pub some_found : (test : R → Bool) (rows : List R) (i : ℕ) (row : R) → i < length rows → row ≡ slice_index_or rows i row → test row ≡ true → some test rows ≡ true
-  some_found test rows i row l e t =
-      let parts : rows ≡ take i rows ++ (row ∷ drop (i + 1) rows) = sym (take-append-drop i rows) ∙ ap (λ ys. take i rows ++ ys) (drop_more rows i row l ∙ ap (λ x. x ∷ drop (i + 1) rows) (sym e)) in
-      ap (some test) parts ∙ some_append test (take i rows) (row ∷ drop (i + 1) rows) ∙ or_right (some test (take i rows)) (test row || some test (drop (i + 1) rows)) (or_left (test row) (some test (drop (i + 1) rows)) t)
-
-  -- one row more that is not it
-  pub some_more : (test : R → Bool) (rows : List R) (i : ℕ) (row : R) → i < length rows → row ≡ slice_index_or rows i row → some test (take i rows) ≡ false → test row ≡ false → some test (take (i + 1) rows) ≡ false
-  some_more test rows i row l e none t =
-      ap (some test) (take_more rows i row l ∙ ap (λ x. take i rows ++ x ∷ []) (sym e)) ∙ some_append test (take i rows) (row ∷ []) ∙ or_from (some test (take i rows)) (test row || false) none (or_from (test row) false t refl)
-
-  -- the whole table
-  pub some_all : (test : R → Bool) (rows : List R) (i : ℕ) → length rows ≤ i → some test (take i rows) ≡ false → some test rows ≡ false
-  some_all test rows i l none = ap (some test) (sym (take_all i rows l)) ∙ none
-
-  -- the test decides the statement
-  pub some_decides : (test : R → Bool) (P : R → Type 0) → ((row : R) → Decides (test row) (P row)) → (rows : List R) → Decides (some test rows) (SomeRow P rows)
-  some_decides test P each = Decides-by_or test P (some test) each refl (λ _ _. refl)
-
-  -- what the walk found, as a statement: no exactly when some row forbids
-  pub walked : (test : R → Bool) (P : R → Type 0) → ((row : R) → Decides (test row) (P row)) → (rows : List R) (r : Bool) → r ≡ not (some test rows) → NoExactly r (SomeRow P rows)
-  walked test P each rows r e =
-      let d = some_decides test P each rows in
-      (λ f. d.0 (not-false (some test rows) (sym e ∙ f)), λ p. e ∙ ap not (d.1 p))
-
-  -- the places behind a table's rows stay unused when a row is added
-  pub clean_set : (n c : ℕ) (rows : List R) (unused row : R) → drop c rows ≡ replicate (n - c) unused → drop (c + 1) (slice_set rows c row) ≡ replicate (n - (c + 1)) unused
-  clean_set n c rows unused row u =
-      let less : n - c - 1 ≡ n - (c + 1) = omega arith in
-      drop-set-lt (c + 1) rows c row (omega arith) ∙ sym (drop-drop 1 c rows) ∙ ap (drop 1) u ∙ drop-replicate 1 (n - c) unused ∙ ap (λ m. replicate m unused) less
+-- a sound row is added where there is room
+pub sound_added : {fault : Option RowRefusal} (room held : ℕ) (added : Type 0) {kept unchanged : Type 0} (r : Result (Unit {0}) RowRefusal) → fault ≡ None → MatchResult r (λ _. (held < room) × added) (λ e. (room ≤ held) × (e ≡ TableFull) × kept) → (kept → unchanged) → Adds (row_refusal room held fault) added unchanged r
+sound_added room held added (Ok _) sound told same = rw (sound, lt-ltb held room told.0) (refl, told.1)
+sound_added room held added (Err e) sound told same = rw (sound, le-ltb held room told.0, told.1) (refl, same told.2)

@@ -5,6 +5,8 @@ pub mod MasksLemmas
 pub mod PairRows
 pub mod PairRowsLemmas
 pub mod Refusals
+pub mod RowTables
 pub mod Rows
 pub mod RowsLemmas
 pub mod Sets
+pub mod Tables

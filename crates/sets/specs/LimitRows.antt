@@ -1,15 +1,9 @@
--- What limits forbid, and why a row is refused. Assumes nothing.
-use Rattle.std.specs.Prelude.{ℕ, ◌^◌, ◌<◌, Bool, cond, ◌&&◌, List, take, Some, None, Option, bit_and, count_ones, nat_le, nat_lt}
-use Rattle.sets.specs.Rows.{SomeRow, some}
-use Rattle.sets.specs.declared.kind.Kind.{Ghosts}
-use Rattle.sets.specs.declared.limits.table.Limit.{Limit}
-use Rattle.sets.specs.declared.limits.table.Limits.{Limits}
+-- What limits forbid, and what can be wrong with a limit. Assumes nothing.
+use Rattle.std.specs.Prelude.{ℕ, ◌^◌, ◌<◌, Bool, if◌then◌else◌, ◌&&◌, List, Some, None, Option, bit_and, count_ones, nat_le, nat_lt}
+use Rattle.std.specs.List.{list_any}
+use Rattle.sets.specs.declared.limits.Limit.{Limit}
 use Rattle.sets.specs.declared.refusal.RowRefusal.{RowRefusal}
-use Rattle.sets.specs.declared.refusal.RowRefusal.TheVariants.{OutOfRange, TableFull}
-
--- the rows of a table, in the order in which they were added
-abbrev pub limits_of : {X : Type 0} {kind : Ghosts X} → Limits X kind → List Limit
-limits_of x = take x.count x.rows
+use Rattle.sets.specs.declared.refusal.RowRefusal.TheVariants.{OutOfRange}
 
 -- how many members two sets have in common
 abbrev pub shared : ℕ → ℕ → ℕ
@@ -22,14 +16,10 @@ Passes s row = row.most < shared s row.members
 abbrev pub passes : ℕ → Limit → Bool
 passes s row = nat_lt row.most (shared s row.members)
 
--- a set has more members of some row than that row's most
-abbrev pub SomeLimit : ℕ → List Limit → Type 0
-SomeLimit s rows = SomeRow (Passes s) rows
-
+-- whether a set has more members of some row than that row's most
 abbrev pub some_limit : ℕ → List Limit → Bool
-some_limit s rows = some (passes s) rows
+some_limit s rows = list_any (passes s) rows
 
--- why a row is refused, of a kind with n places, by a table that holds some already: the first check that fails
-abbrev pub limit_refusal : ℕ → ℕ → ℕ → ℕ → Option RowRefusal
-limit_refusal n held members most =
-    cond (nat_lt members (2 ^ n) && nat_le most 31) (cond (nat_lt held 16) None (Some TableFull)) (Some OutOfRange)
+-- what is wrong with a row, where members are to be below n
+abbrev pub limit_fault : ℕ → Limit → Option RowRefusal
+limit_fault n row = if nat_lt row.members (2 ^ n) && nat_le row.most 31 then None else Some OutOfRange

@@ -1,11 +1,11 @@
 -- A limit keeps the laws of a row.
-use Rattle.std.specs.Prelude.{◌≡◌, ℕ, true, false, Decides, bit_and}
+use Rattle.std.specs.Prelude.{◌≡◌, ℕ, ◌↔◌, true, false, IsTrue, bit_and}
 use Rattle.std.proofs.Common.{ap, arith}
 use Rattle.std.specs.Int.Bits.{and_zero_l}
 use Rattle.std.specs.Int.Count.{ones}
 use Rattle.sets.specs.LimitRows.{Passes, passes, shared}
 use Rattle.sets.specs.Masks.{Inside}
-use Rattle.sets.specs.declared.limits.table.Limit.{Limit}
+use Rattle.sets.specs.declared.limits.Limit.{Limit}
 use Rattle.sets.specs.MasksLemmas.{inside_and, ones_mono}
 use Rattle.std.proofs.lemmas.Bool.{le-ltb, lt-ltb, ltb-true}
 use Rattle.std.proofs.lemmas.Bool.Decides.{Decides-ltb}
@@ -25,5 +25,5 @@ limit_around row s t h e =
     let m = ones_mono (bit_and s row.members) (bit_and t row.members) (inside_and s t row.members h) in
     lt-ltb row.most (shared t row.members) (omega arith)
 
-pub limit_decided : (row : Limit) (s : ℕ) → Decides (passes s row) (Passes s row)
+pub limit_decided : (row : Limit) (s : ℕ) → IsTrue (passes s row) ↔ Passes s row
 limit_decided row s = Decides-ltb row.most (shared s row.members)

@@ -1,8 +1,8 @@
 -- A pair keeps the laws of a row.
-use Rattle.std.specs.Prelude.{◌≡◌, ℕ, Bool, true, false, Decides}
+use Rattle.std.specs.Prelude.{◌≡◌, ℕ, ◌↔◌, Bool, true, false, IsTrue}
 use Rattle.sets.specs.Masks.{Inside, has}
 use Rattle.sets.specs.PairRows.{HasBoth, has_both}
-use Rattle.sets.specs.declared.pairs.table.Pair.{Pair}
+use Rattle.sets.specs.declared.pairs.Pair.{Pair}
 use Rattle.sets.specs.MasksLemmas.{has_zero}
 use Rattle.std.proofs.lemmas.Bool.{and_from, and_left, and_parts}
 use Rattle.std.proofs.lemmas.Bool.Decides.{Decides-and}
@@ -17,8 +17,8 @@ pair_around p s t h e =
     let q = and_parts (has s p.first) (has s p.second) e in
     and_from (has t p.first) (has t p.second) (h p.first q.0) (h p.second q.1)
 
-true_decides : (b : Bool) → Decides b (b ≡ true)
+true_decides : (b : Bool) → IsTrue b ↔ (b ≡ true)
 true_decides b = (λ e. e, λ e. e)
 
-pub pair_decided : (p : Pair) (s : ℕ) → Decides (has_both s p) (HasBoth s p)
+pub pair_decided : (p : Pair) (s : ℕ) → IsTrue (has_both s p) ↔ HasBoth s p
 pair_decided p s = Decides-and (has s p.first) (has s p.second) (true_decides (has s p.first)) (true_decides (has s p.second))

@@ -3,7 +3,7 @@ ghost use Rattle.std.specs.Prelude.{◌≡◌, true, false, Ok};
 
 use crate::exclusion::Exclusion;
 use crate::kind::Roles;
-use crate::limits::Limits;
+use crate::limits::{Limit, Limits};
 use crate::refusal::RowRefusal;
 use crate::set::Set;
 
@@ -12,8 +12,11 @@ pub fn at_most_two_of_three() -> Result<(bool, bool), RowRefusal>
     ensures { result ≡ Ok (true, false) }
 {
     let mut limits: Limits<Roles> = Limits::new();
-    limits.add(0b0111, 2)?;
-    let two = Set::from_mask(0b1011)?;
-    let three = Set::from_mask(0b0111)?;
+    limits.add(Limit {
+        members: 0b0111,
+        most: 2,
+    })?;
+    let two = Set::try_from(0b1011)?;
+    let three = Set::try_from(0b0111)?;
     Ok((limits.allows(two), limits.allows(three)))
 }

@@ -13,7 +13,7 @@ pub trait Exclusion<K: Kind> {
 
     // Whether the set is allowed.
     fn allows(&self, set: Set<K>) -> bool
-        ensures { result ≡ allowed self.now (mask K.Kind.count set) };
+        ensures { result ≡ allowed self.now (mask K.COUNT set) };
 
     // nobody is stopped from having nothing
     ghost empty: { (x : Self) → allowed x 0 ≡ true };

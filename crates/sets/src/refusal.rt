@@ -1,9 +1,18 @@
 // What this crate refuses, by which number and in which words.
 ghost use Rattle.std.specs.Prelude.{◌≡◌, ◌++◌, Some, codes, decimal};
+ghost use Rattle.std.specs.Fmt.{WritesOnOk};
 ghost use Rattle.sets.specs.Refusals.{mask_number, passed_on, row_number, row_words};
 
 use std::error::Error;
 use std::fmt;
+
+// Writes a refusal as people read it, here and in the layers above: its number and its words. Each `Display` calls it, and says so in its
+// `output`, which no derive does.
+pub fn show<W: fmt::Write>(number: u8, words: &str, f: &mut fmt::Formatter<W>) -> fmt::Result
+    ensures { WritesOnOk W.write_str_gives f.old result (decimal number ++ (codes ": " ++ words.now)) f.new }
+{
+    write!(f, "{number}: {words}")
+}
 
 // Why a raw mask is no set of its kind.
 #[derive(Clone, Copy, PartialEq, Eq, Debug)]
@@ -53,9 +62,7 @@ impl fmt::Display for RowRefusal {
     ghost output = { λ x. Some (decimal (row_number x) ++ (codes ": " ++ row_words x)) };
 
     fn fmt<W: fmt::Write>(&self, f: &mut fmt::Formatter<W>) -> fmt::Result {
-        let number = self.number();
-        let words = self.words();
-        write!(f, "{number}: {words}")
+        show(self.number(), self.words(), f)
     }
 }
 
@@ -75,8 +82,7 @@ impl fmt::Display for MaskRefusal {
     ghost output = { λ x. Some (decimal (mask_number x) ++ (codes ": " ++ row_words (passed_on x))) };
 
     fn fmt<W: fmt::Write>(&self, f: &mut fmt::Formatter<W>) -> fmt::Result {
-        let row: RowRefusal = (*self).into();
-        row.fmt(f)
+        RowRefusal::from(*self).fmt(f)
     }
 }
 

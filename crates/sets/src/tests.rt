@@ -1,11 +1,12 @@
 // Sets and exclusions run at their edges, for roles, acts and a kind that nothing here was written for.
-ghost use Rattle.std.proofs.Common.{rules};
+ghost use Rattle.std.specs.Prelude.{refl};
+ghost use Rattle.std.proofs.lemmas.Bool.{ltb-false};
 
 use crate::both::Both;
 use crate::exclusion::Exclusion;
 use crate::kind::{Acts, Kind, Roles};
-use crate::limits::Limits;
-use crate::pairs::Pairs;
+use crate::limits::{Limit, Limits};
+use crate::pairs::{Pair, Pairs};
 use crate::refusal::{MaskRefusal, RowRefusal};
 use crate::set::Set;
 use std::process::Abort;
@@ -18,13 +19,9 @@ struct Clients;
 impl Kind for Clients {
     const COUNT: u32 = 48;
 
-    ghost count = { 48 };
+    ghost COUNT = { 48 };
 
-    ghost narrow = { Prim.search rules };
-
-    fn places() -> u32 {
-        Self::COUNT
-    }
+    ghost narrow = { ltb-false 64 48 refl };
 }
 
 // The highest member is one, and the place behind it is none.
@@ -58,11 +55,17 @@ fn highest_rows<K: Kind>(
 ) -> Result<(), Fail> {
     let two: Set<K> = Set::one(highest).with(below);
     let mut pairs: Pairs<K> = Pairs::new();
-    pairs.add(highest, below)?;
+    pairs.add(Pair {
+        first: highest,
+        second: below,
+    })?;
     assert!(rt; !pairs.allows(two), "{kind}");
     assert!(rt; pairs.allows(Set::one(highest)), "{kind}");
     let mut limits: Limits<K> = Limits::new();
-    limits.add(two.mask(), 1)?;
+    limits.add(Limit {
+        members: two.mask(),
+        most: 1,
+    })?;
     assert!(rt; !limits.allows(two), "{kind}");
     assert!(rt; limits.allows(Set::one(highest)), "{kind}");
     Ok(())
@@ -77,11 +80,11 @@ fn rows_of_the_highest_members(rt: HostRuntime) -> Result<(), Fail> {
 
 #[test]
 fn masks_at_the_edge(rt: HostRuntime) -> Result<(), Fail> {
-    let roles: Set<Roles> = Set::from_mask(0xffff_ffff)?;
+    let roles: Set<Roles> = Set::try_from(0xffff_ffff)?;
     assert_eq!(rt; roles.len(), 32);
-    let acts: Set<Acts> = Set::from_mask(0xffff)?;
+    let acts: Set<Acts> = Set::try_from(0xffff)?;
     assert_eq!(rt; acts.len(), 16);
-    let refused: Result<Set<Acts>, MaskRefusal> = Set::from_mask(0x1_0000);
+    let refused: Result<Set<Acts>, MaskRefusal> = Set::try_from(0x1_0000);
     assert_eq!(rt; refused, Err(MaskRefusal::OutsideKind));
     Ok(())
 }
@@ -110,13 +113,40 @@ fn unions_and_insides(rt: HostRuntime) {
 fn the_last_pair(rt: HostRuntime) -> Result<(), Fail> {
     let mut pairs: Pairs<Acts> = Pairs::new();
     for _ in 0..128 {
-        pairs.add(14, 15)?;
+        pairs.add(Pair {
+            first: 14,
+            second: 15,
+        })?;
     }
     assert_eq!(rt; pairs.rows().len(), 128);
-    assert_eq!(rt; pairs.add(14, 15), Err(RowRefusal::TableFull));
-    assert_eq!(rt; pairs.add(15, 15), Err(RowRefusal::EqualPair));
-    assert_eq!(rt; pairs.add(15, 16), Err(RowRefusal::OutOfRange));
-    assert_eq!(rt; pairs.add(16, 16), Err(RowRefusal::OutOfRange));
+    assert_eq!(rt;
+        pairs.add(Pair {
+            first: 14,
+            second: 15
+        }),
+        Err(RowRefusal::TableFull)
+    );
+    assert_eq!(rt;
+        pairs.add(Pair {
+            first: 15,
+            second: 15
+        }),
+        Err(RowRefusal::EqualPair)
+    );
+    assert_eq!(rt;
+        pairs.add(Pair {
+            first: 15,
+            second: 16
+        }),
+        Err(RowRefusal::OutOfRange)
+    );
+    assert_eq!(rt;
+        pairs.add(Pair {
+            first: 16,
+            second: 16
+        }),
+        Err(RowRefusal::OutOfRange)
+    );
     assert!(rt; !pairs.allows(Set::one(14).with(15)));
     assert!(rt; pairs.allows(Set::one(15)));
     Ok(())
@@ -127,13 +157,34 @@ fn the_last_pair(rt: HostRuntime) -> Result<(), Fail> {
 fn the_last_limit(rt: HostRuntime) -> Result<(), Fail> {
     let mut limits: Limits<Roles> = Limits::new();
     for _ in 0..16 {
-        limits.add(0xffff_ffff, 31)?;
+        limits.add(Limit {
+            members: 0xffff_ffff,
+            most: 31,
+        })?;
     }
     assert_eq!(rt; limits.rows().len(), 16);
-    assert_eq!(rt; limits.add(1, 0), Err(RowRefusal::TableFull));
-    assert_eq!(rt; limits.add(1, 32), Err(RowRefusal::OutOfRange));
-    assert_eq!(rt; limits.add(0x1_0000_0000, 0), Err(RowRefusal::OutOfRange));
-    let all: Set<Roles> = Set::from_mask(0xffff_ffff)?;
+    assert_eq!(rt;
+        limits.add(Limit {
+            members: 1,
+            most: 0
+        }),
+        Err(RowRefusal::TableFull)
+    );
+    assert_eq!(rt;
+        limits.add(Limit {
+            members: 1,
+            most: 32
+        }),
+        Err(RowRefusal::OutOfRange)
+    );
+    assert_eq!(rt;
+        limits.add(Limit {
+            members: 0x1_0000_0000,
+            most: 0
+        }),
+        Err(RowRefusal::OutOfRange)
+    );
+    let all: Set<Roles> = Set::try_from(0xffff_ffff)?;
     assert!(rt; !limits.allows(all));
     assert!(rt; limits.allows(all.without(31)));
     Ok(())
@@ -142,9 +193,15 @@ fn the_last_limit(rt: HostRuntime) -> Result<(), Fail> {
 #[test]
 fn both_sides_are_asked(rt: HostRuntime) -> Result<(), Fail> {
     let mut left: Pairs<Clients> = Pairs::new();
-    left.add(46, 47)?;
+    left.add(Pair {
+        first: 46,
+        second: 47,
+    })?;
     let mut right: Limits<Clients> = Limits::new();
-    right.add(1, 0)?;
+    right.add(Limit {
+        members: 1,
+        most: 0,
+    })?;
     let both = Both { left, right };
     assert!(rt; !both.allows(Set::one(46).with(47)));
     assert!(rt; !both.allows(Set::one(0)));

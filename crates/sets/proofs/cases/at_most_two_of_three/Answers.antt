@@ -1,7 +1,8 @@
-use Rattle.std.proofs.Common.{◌≡◌, true, false, not, List, [], ◌∷◌, ◌++◌, take, refl, ap, ◌∙◌}
-use lib.Count.{ones}
+use Rattle.std.proofs.Common.{◌≡◌, true, false, not, List, [], ◌∷◌, ◌++◌, refl, ap, ◌∙◌}
+use Rattle.std.specs.Int.Count.{ones}
 use Rattle.sets.specs.LimitRows.{some_limit}
-use Rattle.sets.specs.declared.limits.table.Limit.{Limit}
+use Rattle.sets.specs.RowTables.{rows_of}
+use Rattle.sets.specs.declared.limits.Limit.{Limit}
 use Rattle.sets.proofs.cases.at_most_two_of_three.Goals as goal
 
 -- the case, computed on the definitions
@@ -19,7 +20,7 @@ three_fail = refl
 pub returns : goal.returns
 unfolding row
 returns c =
-    let rows : take c.add.new.self.count c.add.new.self.rows ≡ row = c.in_ok-add.ensures.1 ∙ ap (λ xs. xs ++ row) c.new-limits.ensures in
-    let two = c.allows.ensures.answer ∙ ap (λ s. not (some_limit s (take c.add.new.self.count c.add.new.self.rows))) c.in_ok-two.ensures.2 ∙ ap (λ xs. not (some_limit 11 xs)) rows ∙ two_pass in
-    let three = c.allows-2.ensures.answer ∙ ap (λ s. not (some_limit s (take c.add.new.self.count c.add.new.self.rows))) c.in_ok-three.ensures.2 ∙ ap (λ xs. not (some_limit 7 xs)) rows ∙ three_fail in
+    let rows : rows_of c.add.new.self ≡ row = c.in_ok-add.ensures.1 ∙ ap (λ xs. xs ++ row) c.new-limits.ensures in
+    let two = c.allows.ensures.answer ∙ ap (λ s. not (some_limit s (rows_of c.add.new.self))) c.in_ok-two.ensures.2 ∙ ap (λ xs. not (some_limit 11 xs)) rows ∙ two_pass in
+    let three = c.allows-2.ensures.answer ∙ ap (λ s. not (some_limit s (rows_of c.add.new.self))) c.in_ok-three.ensures.2 ∙ ap (λ xs. not (some_limit 7 xs)) rows ∙ three_fail in
     cc
