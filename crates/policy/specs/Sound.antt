@@ -1,14 +1,14 @@
 -- What every policy keeps, drafted or sealed. Assumes nothing.
-use Rattle.std.specs.Prelude.{ℕ, ◌^◌, ◌<◌, ◌≤◌, ◌≢◌, length}
+use Rattle.std.specs.Prelude.{ℕ, ◌^◌, ◌<◌, ◌≤◌, ◌≢◌, All, length}
 use Rattle.policy.specs.Below.{Falls}
 use Rattle.policy.specs.Policies.{Policy, Rows, count, places, rows_in}
-use Rattle.policy.specs.Tables.{Throughout}
 use Rattle.policy.specs.declared.hierarchy.Step.{Step}
 use Rattle.policy.specs.declared.role.Role.{Role}
 use Rattle.policy.specs.declared.rule.Rule.{Rule}
 use Rattle.policy.specs.declared.scope.Scope.{Scope}
-use Rattle.sets.specs.declared.limits.table.Limit.{Limit}
-use Rattle.sets.specs.declared.pairs.table.Pair.{Pair}
+use Rattle.policy.specs.declared.scope.Scope.TheVariants.{Standing, Session, History}
+use Rattle.sets.specs.declared.limits.Limit.{Limit}
+use Rattle.sets.specs.declared.pairs.Pair.{Pair}
 
 -- counts stay within their tables
 abbrev pub Few : Policy → Type 0
@@ -22,20 +22,20 @@ FewRows p = FewIn p.standing × FewIn p.session × FewIn p.history
 
 -- juniors have lower numbers
 abbrev pub Lower : Policy → Type 0
-Lower p = Throughout Falls p.steps
+Lower p = All Falls p.steps
 
 -- every act, role, most and depth that is named exists
 abbrev pub RoleActs : Role → Type 0
 RoleActs role = role.acts.bits < 2 ^ 16
 
 abbrev pub ActsExist : Policy → Type 0
-ActsExist p = Throughout RoleActs p.roles
+ActsExist p = All RoleActs p.roles
 
 abbrev pub StepEnds : ℕ → Step → Type 0
 StepEnds n step = (step.senior < n) × (step.junior < n)
 
 abbrev pub StepsExist : Policy → Type 0
-StepsExist p = Throughout (StepEnds (count p)) p.steps
+StepsExist p = All (StepEnds (count p)) p.steps
 
 abbrev pub PairMembers : ℕ → Pair → Type 0
 PairMembers n pair = (pair.first < n) × (pair.second < n)
@@ -45,20 +45,33 @@ LimitMembers n limit = (limit.members < 2 ^ n) × (limit.most ≤ 31)
 
 abbrev pub MembersExist : Scope → Policy → Type 0
 MembersExist scope p =
-    Throughout (PairMembers (places scope p)) (rows_in scope p).pairs × Throughout (LimitMembers (places scope p)) (rows_in scope p).limits
+    All (PairMembers (places scope p)) (rows_in scope p).pairs × All (LimitMembers (places scope p)) (rows_in scope p).limits
 
 abbrev pub RuleRoles : ℕ → Rule → Type 0
 RuleRoles n rule = (rule.role < n) × (rule.required.bits < 2 ^ n) × (rule.depth ≤ 15)
 
 abbrev pub RulesExist : Policy → Type 0
-RulesExist p = Throughout (RuleRoles (count p)) p.rules
+RulesExist p = All (RuleRoles (count p)) p.rules
 
 -- no pair has equal members
 abbrev pub PairApart : Pair → Type 0
 PairApart pair = pair.first ≢ pair.second
 
 abbrev pub ApartIn : Rows → Type 0
-ApartIn rows = Throughout PairApart rows.pairs
+ApartIn rows = All PairApart rows.pairs
 
 abbrev pub Apart : Policy → Type 0
 Apart p = ApartIn p.standing × ApartIn p.session × ApartIn p.history
+
+-- all of it
+pub record IsSound (p : Policy) : Type 0 where
+  pub few : Few p
+  pub few_rows : FewRows p
+  pub lower : Lower p
+  pub acts_exist : ActsExist p
+  pub steps_exist : StepsExist p
+  pub standing_exist : MembersExist Standing p
+  pub session_exist : MembersExist Session p
+  pub history_exist : MembersExist History p
+  pub rules_exist : RulesExist p
+  pub apart : Apart p

@@ -1,27 +1,32 @@
 // Worked cases, each proved by computing it: the check fails where a case does not come out.
-ghost use Rattle.std.specs.Prelude.{◌≡◌, Ok};
+ghost use Rattle.std.specs.Prelude.{◌≡◌, Ok, MatchResult};
 
 use crate::draft::Draft;
+use crate::hierarchy::Step;
 use crate::refusal::DraftRefusal;
 use crate::role::Marks;
 use crate::rule::Rule;
 use crate::sealed::Sealed;
 use sets::set::Set;
+use std::alloc::AllocError;
 
 // Steps from role 2 to 1 and from 1 to 0: the roles below 2 are 0, 1 and 2, and below 0 is 0, as masks.
 pub fn two_steps_down() -> Result<(u64, u64), DraftRefusal>
     ensures { result ≡ Ok (0b111, 0b001) }
 {
-    let marks = Marks {
-        grant_dependent: false,
-        grant_independent: false,
-    };
+    let unmarked = Marks::default();
     let mut draft = Draft::new();
-    draft.add_role(0, marks)?;
-    draft.add_role(0, marks)?;
-    draft.add_role(0, marks)?;
-    draft.add_step(2, 1)?;
-    draft.add_step(1, 0)?;
+    draft.add_role(0, unmarked)?;
+    draft.add_role(0, unmarked)?;
+    draft.add_role(0, unmarked)?;
+    draft.add_step(Step {
+        senior: 2,
+        junior: 1,
+    })?;
+    draft.add_step(Step {
+        senior: 1,
+        junior: 0,
+    })?;
     let policy: Sealed = draft.seal();
     Ok((policy.below(2).mask(), policy.below(0).mask()))
 }
@@ -36,4 +41,11 @@ pub fn usual_depth() -> u32
         depth: 0,
     };
     rule.links()
+}
+
+// A clone of a sealed policy says the same, and making it never fails.
+pub fn cloned(policy: &Sealed) -> Result<Sealed, AllocError>
+    ensures { MatchResult result (λ clone. clone ≡ policy.now) (λ _. ⊥) }
+{
+    policy.clone()
 }

@@ -1,24 +1,23 @@
 // What a policy is made of, in drafts and in sealed policies alike. It promises nothing by itself: the types around it do.
-ghost use Rattle.std.specs.Prelude.{◌≡◌};
-ghost use Rattle.policy.specs.Policies.{nothing, policy};
+ghost use Rattle.std.specs.Prelude.{◌≡◌, ◌≤◌};
+ghost use Rattle.policy.specs.Policies.{count, no_rows, nothing, policy, rows};
 
 use crate::hierarchy::{MOST_STEPS, Step};
 use crate::role::{MOST_ROLES, Role};
 use crate::rule::{MOST_RULES, Rule};
-use crate::table::Table;
-use sets::both::Both;
-use sets::kind::{Acts, Roles};
+use sets::both::{Both, PairsAndLimits};
+use sets::kind::{Acts, Kind, Roles};
 use sets::limits::Limits;
 use sets::pairs::Pairs;
-use sets::set::Set;
+use sets::table::Table;
 
 #[derive(Clone, Copy)]
 pub struct Contents {
     pub(crate) roles: Table<Role, MOST_ROLES>,
     pub(crate) steps: Table<Step, MOST_STEPS>,
-    pub(crate) standing: Both<Pairs<Roles>, Limits<Roles>>,
-    pub(crate) session: Both<Pairs<Roles>, Limits<Roles>>,
-    pub(crate) history: Both<Pairs<Acts>, Limits<Acts>>,
+    pub(crate) standing: PairsAndLimits<Roles>,
+    pub(crate) session: PairsAndLimits<Roles>,
+    pub(crate) history: PairsAndLimits<Acts>,
     pub(crate) rules: Table<Rule, MOST_RULES>,
 }
 
@@ -26,30 +25,29 @@ impl Contents {
     pub(crate) fn new() -> Contents
         ensures { policy result ≡ nothing }
     {
-        let no_rule = Rule {
-            role: 0,
-            required: Set::empty(),
-            depth: 0,
-        };
         Contents {
-            roles: Table::new(Role::none()),
-            steps: Table::new(Step {
-                senior: 0,
-                junior: 0,
-            }),
-            standing: Both {
-                left: Pairs::new(),
-                right: Limits::new(),
-            },
-            session: Both {
-                left: Pairs::new(),
-                right: Limits::new(),
-            },
-            history: Both {
-                left: Pairs::new(),
-                right: Limits::new(),
-            },
-            rules: Table::new(no_rule),
+            roles: Table::new(),
+            steps: Table::new(),
+            standing: nothing_excluded(),
+            session: nothing_excluded(),
+            history: nothing_excluded(),
+            rules: Table::new(),
         }
+    }
+
+    pub(crate) fn role_count(&self) -> u32
+        ensures number { result ≡ count (policy self.now) }
+        ensures few { result ≤ 32 }
+    {
+        self.roles.as_slice().len() as u32
+    }
+}
+
+fn nothing_excluded<K: Kind>() -> PairsAndLimits<K>
+    ensures { rows result ≡ no_rows }
+{
+    Both {
+        left: Pairs::new(),
+        right: Limits::new(),
     }
 }

@@ -1,47 +1,45 @@
 // Drafts: a policy in the making. Each call adds one item, or refuses it by the first check that fails and changes nothing.
-mod put;
-
 ghost use Rattle.std.specs.Prelude.{◌≡◌};
 ghost use Rattle.policy.specs.Drafts.{Adds, limit_refusal, pair_refusal, role_refusal, rule_refusal, step_refusal};
-ghost use Rattle.policy.specs.Policies.{count, nothing, policy, set_of, with_limit, with_pair, with_role, with_rule, with_step};
-ghost use Rattle.policy.specs.Sound.{ActsExist, Apart, Few, FewRows, Lower, MembersExist, RulesExist, StepsExist};
-ghost use Rattle.policy.specs.declared.scope.Scope.TheVariants.{History, Session, Standing};
+ghost use Rattle.policy.specs.Roles.{set_of};
+ghost use Rattle.policy.specs.Sound.{IsSound};
+ghost use Rattle.policy.specs.Policies.{count, nothing, places, with_limit, with_pair, with_role, with_rule, with_step};
 
 use crate::contents::Contents;
-use crate::hierarchy::{MOST_STEPS, Step};
+use crate::hierarchy::Step;
 use crate::refusal::DraftRefusal;
-use crate::role::{MOST_ROLES, Marks, Role};
-use crate::rows::{is_within, with_limit, with_pair};
-use crate::rule::{HIGHEST_DEPTH, MOST_RULES, Rule};
+use crate::role::{Marks, Role};
+use crate::rule::{HIGHEST_DEPTH, Rule};
 use crate::scope::Scope;
-use sets::both::Both;
-use sets::kind::{Acts, Kind, Roles};
-use sets::set::Set;
+use sets::kind::{Acts, Kind};
+use sets::limits::Limit;
+use sets::pairs::Pair;
+use sets::row::Entry;
+use sets::set::{Set, is_below};
+use std::marker::Model;
 
 // A policy in the making. What its type promises is what a sealed policy needs, so that sealing has nothing to refuse.
 #[derive(Drop)]
 pub struct Draft {
     pub(crate) contents: Contents,
-    // counts stay within their tables
-    ghost few: { Few (policy contents) },
-    ghost few_rows: { FewRows (policy contents) },
-    // juniors have lower numbers
-    ghost lower: { Lower (policy contents) },
-    // every number named exists
-    ghost acts_exist: { ActsExist (policy contents) },
-    ghost steps_exist: { StepsExist (policy contents) },
-    ghost standing_exist: { MembersExist Standing (policy contents) },
-    ghost session_exist: { MembersExist Session (policy contents) },
-    ghost history_exist: { MembersExist History (policy contents) },
-    ghost rules_exist: { RulesExist (policy contents) },
-    // no pair has equal members
-    ghost apart: { Apart (policy contents) },
+}
+
+// To contracts a draft is what it says, and what it says is sound.
+impl Model for Draft {
+    ghost use Rattle.policy.specs.Policies.{Policy, policy};
+    ghost use Rattle.policy.specs.Sound.{IsSound};
+
+    ghost Value = { Policy };
+
+    ghost view = { λ draft. policy draft.contents };
+
+    ghost invariant = { λ draft. IsSound (policy draft.contents) };
 }
 
 impl Draft {
     // A draft with nothing in it.
     pub fn new() -> Draft
-        ensures { policy result.contents ≡ nothing }
+        ensures { result ≡ nothing }
     {
         Draft {
             contents: Contents::new(),
@@ -50,100 +48,88 @@ impl Draft {
 
     // Adds a role with its acts, given as a raw mask, and its marks. Answers the role's number.
     pub fn add_role(&mut self, acts: u64, marks: Marks) -> Result<u32, DraftRefusal>
-        ensures { Adds (role_refusal (policy self.old.contents) acts) (λ number. (number ≡ count (policy self.old.contents)) × (policy self.new.contents ≡ with_role (record { acts = set_of acts; marks = marks }) (policy self.old.contents))) (self.new ≡ self.old) result }
+        ensures { Adds (role_refusal self.old acts) (λ number. (number ≡ count self.old) × (self.new ≡ with_role (record { acts = set_of acts; marks = marks }) self.old)) (self.new ≡ self.old) result }
     {
-        let acts: Set<Acts> = Set::from_mask(acts)?;
-        let number = self.contents.roles.len();
-        if number >= MOST_ROLES {
-            return Err(DraftRefusal::TableFull);
-        }
-        self.push_role(Role { acts, marks });
-        Ok(number as u32)
+        let acts: Set<Acts> = Set::try_from(acts)?;
+        let number = self.contents.role_count();
+        let role = Role { acts, marks };
+        self.contents.roles.push_or(role, DraftRefusal::TableFull)?;
+        Ok(number)
     }
 
     // Adds a step from a senior role down to a junior one.
-    pub fn add_step(&mut self, senior: u32, junior: u32) -> Result<(), DraftRefusal>
-        ensures { Adds (step_refusal (policy self.old.contents) senior junior) (λ _. policy self.new.contents ≡ with_step (record { senior = senior; junior = junior }) (policy self.old.contents)) (self.new ≡ self.old) result }
+    pub fn add_step(&mut self, step: Step) -> Result<(), DraftRefusal>
+        ensures { Adds (step_refusal self.old step) (λ _. self.new ≡ with_step step self.old) (self.new ≡ self.old) result }
     {
-        let count = self.contents.roles.len() as u32;
-        if senior >= count || junior >= count {
+        let count = self.contents.role_count();
+        if step.senior >= count || step.junior >= count {
             return Err(DraftRefusal::OutOfRange);
         }
-        if junior >= senior {
+        if step.junior >= step.senior {
             return Err(DraftRefusal::NotLower);
         }
-        if self.contents.steps.len() >= MOST_STEPS {
-            return Err(DraftRefusal::TableFull);
-        }
-        self.push_step(Step { senior, junior });
-        Ok(())
+        self.contents.steps.push_or(step, DraftRefusal::TableFull)
     }
 
     // Adds a pair to one of the three exclusions.
-    pub fn add_pair(&mut self, scope: Scope, first: u32, second: u32) -> Result<(), DraftRefusal>
-        ensures { Adds (pair_refusal scope (policy self.old.contents) first second) (λ _. policy self.new.contents ≡ with_pair scope (record { first = first; second = second }) (policy self.old.contents)) (self.new ≡ self.old) result }
+    pub fn add_pair(&mut self, scope: Scope, pair: Pair) -> Result<(), DraftRefusal>
+        ensures { Adds (pair_refusal scope self.old pair) (λ _. self.new ≡ with_pair scope pair self.old) (self.new ≡ self.old) result }
     {
+        pair.check(self.places(scope))?;
         match scope {
-            Scope::Standing => {
-                let Both { left, right } = self.contents.standing;
-                let left = self.with_role_pair(left, first, second)?;
-                self.put_standing(Both { left, right });
-            }
-            Scope::Session => {
-                let Both { left, right } = self.contents.session;
-                let left = self.with_role_pair(left, first, second)?;
-                self.put_session(Both { left, right });
-            }
-            Scope::History => {
-                let Both { left, right } = self.contents.history;
-                let left = with_pair(left, Acts::COUNT, first, second)?;
-                self.put_history(Both { left, right });
-            }
+            Scope::Standing => self.contents.standing.left.add(pair)?,
+            Scope::Session => self.contents.session.left.add(pair)?,
+            Scope::History => self.contents.history.left.add(pair)?,
         }
         Ok(())
     }
 
     // Adds a limit to one of the three exclusions, with its members as a raw mask.
-    pub fn add_limit(&mut self, scope: Scope, members: u64, most: u32) -> Result<(), DraftRefusal>
-        ensures { Adds (limit_refusal scope (policy self.old.contents) members most) (λ _. policy self.new.contents ≡ with_limit scope (record { members = members; most = most }) (policy self.old.contents)) (self.new ≡ self.old) result }
+    #[tactic(auto, using(std::proofs::Common::pow_mono))]
+    pub fn add_limit(&mut self, scope: Scope, limit: Limit) -> Result<(), DraftRefusal>
+        ensures { Adds (limit_refusal scope self.old limit) (λ _. self.new ≡ with_limit scope limit self.old) (self.new ≡ self.old) result }
     {
+        // tables of pairs and of limits are of two types: one call for both would need a trait that is longer than this
+        limit.check(self.places(scope))?;
         match scope {
-            Scope::Standing => {
-                let Both { left, right } = self.contents.standing;
-                let right = self.with_role_limit(right, members, most)?;
-                self.put_standing(Both { left, right });
-            }
-            Scope::Session => {
-                let Both { left, right } = self.contents.session;
-                let right = self.with_role_limit(right, members, most)?;
-                self.put_session(Both { left, right });
-            }
-            Scope::History => {
-                let Both { left, right } = self.contents.history;
-                let right = with_limit(right, Acts::COUNT, members, most)?;
-                self.put_history(Both { left, right });
-            }
+            Scope::Standing => self.contents.standing.right.add(limit)?,
+            Scope::Session => self.contents.session.right.add(limit)?,
+            Scope::History => self.contents.history.right.add(limit)?,
         }
         Ok(())
     }
 
     // Adds a delegation rule for a role, with the required roles as a raw mask.
     pub fn add_rule(&mut self, role: u32, required: u64, depth: u32) -> Result<(), DraftRefusal>
-        ensures { Adds (rule_refusal (policy self.old.contents) role required depth) (λ _. policy self.new.contents ≡ with_rule (record { role = role; required = set_of required; depth = depth }) (policy self.old.contents)) (self.new ≡ self.old) result }
+        ensures { Adds (rule_refusal self.old role required depth) (λ _. self.new ≡ with_rule (record { role = role; required = set_of required; depth = depth }) self.old) (self.new ≡ self.old) result }
     {
-        let count = self.contents.roles.len() as u32;
-        if role >= count || !is_within(required, count) || depth > HIGHEST_DEPTH {
+        let count = self.contents.role_count();
+        if role >= count || !is_below(required, count) || depth > HIGHEST_DEPTH {
             return Err(DraftRefusal::OutOfRange);
         }
-        let required: Set<Roles> = Set::from_mask(required)?;
-        if self.contents.rules.len() >= MOST_RULES {
-            return Err(DraftRefusal::TableFull);
-        }
-        self.push_rule(Rule {
+        let rule = Rule {
             role,
-            required,
+            required: Set::try_from(required)?,
             depth,
-        });
-        Ok(())
+        };
+        self.contents.rules.push_or(rule, DraftRefusal::TableFull)
+    }
+
+    // How many roles have been added. Whoever asks also learns that what the draft says is sound.
+    pub fn role_count(&self) -> u32
+        ensures number { result ≡ count self.now }
+        ensures sound { IsSound self.now }
+    {
+        self.contents.role_count()
+    }
+
+    // How many members the sets of an exclusion can have: the roles added so far, or the acts.
+    fn places(&self, scope: Scope) -> u32
+        ensures { result ≡ places scope self.now }
+    {
+        match scope {
+            Scope::Standing | Scope::Session => self.contents.role_count(),
+            Scope::History => Acts::COUNT,
+        }
     }
 }

@@ -1,27 +1,34 @@
 // The role hierarchy: steps from senior roles to junior ones, and the roles below a role.
-ghost use Rattle.std.specs.Prelude.{◌<◌, ◌≤◌};
+ghost use Rattle.std.specs.Prelude.{◌<◌, ◌≤◌, All};
+ghost use Rattle.std.proofs.Common.{rules};
 ghost use Rattle.policy.specs.Below.{Exact, Falls, RowOf};
-ghost use Rattle.policy.specs.Tables.{Throughout};
 
 use crate::role::MOST_ROLES;
 use sets::kind::Roles;
 use sets::set::Set;
+use sets::table::Blank;
 
 // How many steps a policy can hold.
 pub const MOST_STEPS: usize = 256;
 
 // A step down, from a senior role to a junior one.
-#[derive(Clone, Copy, PartialEq, Eq, Debug)]
+#[derive(Clone, Copy, Default, PartialEq, Eq, Debug)]
 pub struct Step {
     pub senior: u32,
     pub junior: u32,
+}
+
+impl Blank for Step {
+    ghost blank = { record { senior = 0; junior = 0 } };
+
+    ghost alone = { Prim.search rules };
 }
 
 // The roles below each of the first `count` roles. The rows of the lower roles are finished first, and the last row is joined from
 // them, so that each role goes through the steps once however dense they are.
 pub(crate) fn rows_below(steps: &[Step], count: u32) -> [Set<Roles>; MOST_ROLES]
     requires few { count ≤ 32 }
-    requires lower { Throughout Falls steps.now }
+    requires lower { All Falls steps.now }
     ensures { Exact steps.now count result }
 {
     if count == 0 {
@@ -36,7 +43,7 @@ pub(crate) fn rows_below(steps: &[Step], count: u32) -> [Set<Roles>; MOST_ROLES]
 // The roles below one role, which are the role itself and those below its juniors, by the finished rows of the lower roles.
 fn row_below(steps: &[Step], role: u32, lower_rows: &[Set<Roles>; MOST_ROLES]) -> Set<Roles>
     requires few { role < 32 }
-    requires lower { Throughout Falls steps.now }
+    requires lower { All Falls steps.now }
     requires finished { Exact steps.now role lower_rows.now }
     ensures { RowOf steps.now role result }
 {

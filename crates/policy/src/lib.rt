@@ -9,10 +9,8 @@ pub mod draft;
 pub mod hierarchy;
 pub mod refusal;
 pub mod role;
-mod rows;
 pub mod rule;
 pub mod scope;
 pub mod sealed;
-mod table;
 #[cfg(test)]
 mod tests;

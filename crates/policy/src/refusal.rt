@@ -2,7 +2,7 @@
 ghost use Rattle.std.specs.Prelude.{◌≡◌, ◌++◌, Some, codes, decimal};
 ghost use Rattle.policy.specs.Refusals.{draft_number, draft_words, mask_passed_on, row_passed_on};
 
-use sets::refusal::{MaskRefusal, RowRefusal};
+use sets::refusal::{MaskRefusal, RowRefusal, show};
 use std::error::Error;
 use std::fmt;
 
@@ -41,9 +41,7 @@ impl fmt::Display for DraftRefusal {
     ghost output = { λ x. Some (decimal (draft_number x) ++ (codes ": " ++ draft_words x)) };
 
     fn fmt<W: fmt::Write>(&self, f: &mut fmt::Formatter<W>) -> fmt::Result {
-        let number = self.number();
-        let words = self.words();
-        write!(f, "{number}: {words}")
+        show(self.number(), self.words(), f)
     }
 }
 
@@ -53,9 +51,7 @@ impl From<MaskRefusal> for DraftRefusal {
     ghost from_gives = { λ e r. r ≡ mask_passed_on e };
 
     fn from(e: MaskRefusal) -> DraftRefusal {
-        match e {
-            MaskRefusal::OutsideKind => DraftRefusal::OutOfRange,
-        }
+        RowRefusal::from(e).into()
     }
 }
 

@@ -1,10 +1,8 @@
 // Sealed policies: what a monitor starts from. Sealing uses a draft up, works out the roles below each role, and never refuses.
-ghost use Rattle.std.specs.Prelude.{◌≡◌, ℕ, ◌<◌, Decides};
-ghost use Rattle.policy.specs.Below.{Exact};
-ghost use Rattle.policy.specs.Policies.{BelowIn, count, nothing, policy, role_at, rows, rows_in};
+ghost use Rattle.std.specs.Prelude.{◌≡◌, ℕ, ◌<◌, IsTrue, ◌↔◌};
+ghost use Rattle.policy.specs.Policies.{BelowIn, count, nothing, role_at, rows, rows_in};
 ghost use Rattle.policy.specs.Rules.{Fits, SomeRuleFits};
-ghost use Rattle.policy.specs.Sound.{ActsExist, Apart, Few, FewRows, Lower, MembersExist, RuleRoles, RulesExist, StepsExist};
-ghost use Rattle.policy.specs.declared.scope.Scope.TheVariants.{History, Session, Standing};
+ghost use Rattle.policy.specs.Sound.{IsSound, RuleRoles};
 ghost use Rattle.sets.specs.Masks.{has};
 ghost use Rattle.sets.specs.Sets.{mask};
 
@@ -12,110 +10,97 @@ use crate::contents::Contents;
 use crate::draft::Draft;
 use crate::hierarchy::{Step, rows_below};
 use crate::role::{MOST_ROLES, Marks, Role};
-use crate::rule::Rule;
+use crate::rule::{Link, Rule};
 use crate::scope::Scope;
-use sets::both::Both;
-use sets::kind::{Acts, Roles};
-use sets::limits::{Limit, Limits};
-use sets::pairs::{Pair, Pairs};
+use sets::both::PairsAndLimits;
+use sets::kind::{Acts, Kind, Roles};
+use sets::limits::Limit;
+use sets::pairs::Pair;
 use sets::set::Set;
-use std::alloc::AllocError;
+use std::marker::Model;
 
 // A policy that is sound by its type.
-#[derive(Drop)]
+#[derive(Clone, Drop)]
 pub struct Sealed {
     contents: Contents,
     below: [Set<Roles>; MOST_ROLES],
-    // counts stay within their tables
-    ghost few: { Few (policy contents) },
-    ghost few_rows: { FewRows (policy contents) },
-    // juniors have lower numbers
-    ghost lower: { Lower (policy contents) },
-    // every number named exists
-    ghost acts_exist: { ActsExist (policy contents) },
-    ghost steps_exist: { StepsExist (policy contents) },
-    ghost standing_exist: { MembersExist Standing (policy contents) },
-    ghost session_exist: { MembersExist Session (policy contents) },
-    ghost history_exist: { MembersExist History (policy contents) },
-    ghost rules_exist: { RulesExist (policy contents) },
-    // no pair has equal members
-    ghost apart: { Apart (policy contents) },
-    // the table has, for each role, exactly the roles below it
-    ghost exact: { ∥ Exact (policy contents).steps (count (policy contents)) below ∥₁ },
+}
+
+// To contracts a sealed policy is what it says. What it says is sound, and the table has, for each role, exactly the roles below it.
+impl Model for Sealed {
+    ghost use Rattle.policy.specs.Below.{Exact};
+    ghost use Rattle.policy.specs.Policies.{Policy, count, policy};
+    ghost use Rattle.policy.specs.Sound.{IsSound};
+
+    ghost Value = { Policy };
+
+    ghost view = { λ sealed. policy sealed.contents };
+
+    ghost invariant = { λ sealed. IsSound (policy sealed.contents) × Exact (policy sealed.contents).steps (count (policy sealed.contents)) sealed.below };
 }
 
 impl Draft {
     // Uses the draft up.
     pub fn seal(self) -> Sealed
-        ensures { policy result.contents ≡ policy self.contents }
+        ensures same { result ≡ self }
+        ensures sound { IsSound result }
     {
         let Draft { contents } = self;
-        let below = rows_below(contents.steps.as_slice(), contents.roles.len() as u32);
+        let below = rows_below(contents.steps.as_slice(), contents.role_count());
         Sealed { contents, below }
-    }
-}
-
-impl Clone for Sealed {
-    ghost is_clone = { λ x y. y ≡ x };
-
-    ghost is_infallible = { λ _. Unit {0} };
-
-    fn clone(&self) -> Result<Sealed, AllocError> {
-        Ok(Sealed {
-            contents: self.contents,
-            below: self.below,
-        })
     }
 }
 
 impl Sealed {
     // The policy that says nothing.
     pub fn empty() -> Sealed
-        ensures { policy result.contents ≡ nothing }
+        ensures { result ≡ nothing }
     {
         Draft::new().seal()
     }
 
-    // How many roles there are. They have the numbers below it.
+    // How many roles there are. They have the numbers below it. Whoever asks also learns that the policy is sound, which its type promises but
+    // does not show to callers.
     pub fn role_count(&self) -> u32
-        ensures { result ≡ count (policy self.now.contents) }
+        ensures number { result ≡ count self.now }
+        ensures sound { IsSound self.now }
     {
-        self.contents.roles.len() as u32
+        self.contents.role_count()
     }
 
     // The roles, in the order of their numbers.
     pub fn roles(&self) -> &[Role]
-        ensures { result.now ≡ (policy self.now.contents).roles }
+        ensures { result.now ≡ self.now.roles }
     {
         self.contents.roles.as_slice()
     }
 
     // What a role may do by itself: nothing, if it is not in the policy.
     pub fn acts(&self, role: u32) -> Set<Acts>
-        ensures { result ≡ (role_at (policy self.now.contents) role).acts }
+        ensures { result ≡ (role_at self.now role).acts }
     {
         self.role(role).acts
     }
 
     // The marks of a role: none, if it is not in the policy.
     pub fn marks(&self, role: u32) -> Marks
-        ensures { result ≡ (role_at (policy self.now.contents) role).marks }
+        ensures { result ≡ (role_at self.now role).marks }
     {
         self.role(role).marks
     }
 
     fn role(&self, number: u32) -> Role
-        ensures { result ≡ role_at (policy self.now.contents) number }
+        ensures { result ≡ role_at self.now number }
     {
-        if number >= self.role_count() {
-            return Role::none();
-        }
-        self.roles()[number as usize]
+        self.roles()
+            .get(number as usize)
+            .copied()
+            .unwrap_or_default()
     }
 
     // The roles below a role, itself among them: none, if it is not in the policy.
     pub fn below(&self, role: u32) -> Set<Roles>
-        ensures { (x : ℕ) → Decides (has (mask 32 result) x) (BelowIn (policy self.now.contents) role x) }
+        ensures { (x : ℕ) → IsTrue (has (mask 32 result) x) ↔ BelowIn self.now role x }
     {
         if role >= self.role_count() {
             return Set::empty();
@@ -125,94 +110,103 @@ impl Sealed {
 
     // Whether a role is below another. A number that is no role has nothing below it, and is below none.
     pub fn is_below(&self, role: u32, senior: u32) -> bool
-        ensures { Decides result (BelowIn (policy self.now.contents) senior role) }
+        ensures { IsTrue result ↔ BelowIn self.now senior role }
     {
         self.below(senior).has(role)
     }
 
     fn row(&self, role: u32) -> Set<Roles>
-        requires { role < count (policy self.now.contents) }
-        ensures { (x : ℕ) → Decides (has (mask 32 result) x) (BelowIn (policy self.now.contents) role x) }
+        requires { role < count self.now }
+        ensures { (x : ℕ) → IsTrue (has (mask 32 result) x) ↔ BelowIn self.now role x }
     {
         self.below[role as usize]
     }
 
     // The steps, in the order in which they were added.
     pub fn steps(&self) -> &[Step]
-        ensures { result.now ≡ (policy self.now.contents).steps }
+        ensures { result.now ≡ self.now.steps }
     {
         self.contents.steps.as_slice()
     }
 
     // The delegation rules, in the order in which they were added.
     pub fn rules(&self) -> &[Rule]
-        ensures { result.now ≡ (policy self.now.contents).rules }
+        ensures { result.now ≡ self.now.rules }
     {
         self.contents.rules.as_slice()
     }
 
     // The pairs of an exclusion, in the order in which they were added.
     pub fn pairs(&self, scope: Scope) -> &[Pair]
-        ensures { result.now ≡ (rows_in scope (policy self.now.contents)).pairs }
+        ensures { result.now ≡ (rows_in scope self.now).pairs }
     {
-        match scope {
-            Scope::Standing => self.contents.standing.left.rows(),
-            Scope::Session => self.contents.session.left.rows(),
-            Scope::History => self.contents.history.left.rows(),
-        }
+        self.rows(scope).0
     }
 
     // The limits of an exclusion, in the order in which they were added.
     pub fn limits(&self, scope: Scope) -> &[Limit]
-        ensures { result.now ≡ (rows_in scope (policy self.now.contents)).limits }
+        ensures { result.now ≡ (rows_in scope self.now).limits }
+    {
+        self.rows(scope).1
+    }
+
+    fn rows(&self, scope: Scope) -> (&[Pair], &[Limit])
+        ensures pairs { result.0.now ≡ (rows_in scope self.now).pairs }
+        ensures limits { result.1.now ≡ (rows_in scope self.now).limits }
     {
         match scope {
-            Scope::Standing => self.contents.standing.right.rows(),
-            Scope::Session => self.contents.session.right.rows(),
-            Scope::History => self.contents.history.right.rows(),
+            Scope::Standing => both_rows(&self.contents.standing),
+            Scope::Session => both_rows(&self.contents.session),
+            Scope::History => both_rows(&self.contents.history),
         }
     }
 
     // The standing exclusion, ready for a monitor.
-    pub fn standing(&self) -> Both<Pairs<Roles>, Limits<Roles>>
-        ensures { rows result ≡ (policy self.now.contents).standing }
+    pub fn standing(&self) -> PairsAndLimits<Roles>
+        ensures { rows result ≡ self.now.standing }
     {
         self.contents.standing
     }
 
     // The session exclusion, ready for a monitor.
-    pub fn session(&self) -> Both<Pairs<Roles>, Limits<Roles>>
-        ensures { rows result ≡ (policy self.now.contents).session }
+    pub fn session(&self) -> PairsAndLimits<Roles>
+        ensures { rows result ≡ self.now.session }
     {
         self.contents.session
     }
 
     // The history exclusion, ready for a monitor.
-    pub fn history(&self) -> Both<Pairs<Acts>, Limits<Acts>>
-        ensures { rows result ≡ (policy self.now.contents).history }
+    pub fn history(&self) -> PairsAndLimits<Acts>
+        ensures { rows result ≡ self.now.history }
     {
         self.contents.history
     }
 
-    // Whether some rule lets a role be passed on, from a role that is the basis, to somebody with these own roles, as the link of that depth.
-    pub fn rule_fits(&self, basis: u32, role: u32, own: Set<Roles>, depth: u32) -> bool
-        ensures { Decides result (SomeRuleFits (policy self.now.contents) basis role (mask 32 own) depth) }
+    // Whether some rule lets the link be added.
+    pub fn rule_fits(&self, link: Link) -> bool
+        ensures { IsTrue result ↔ SomeRuleFits self.now link }
     {
-        for rule in self.rules() {
-            if self.fits(rule, basis, role, own, depth) {
-                return true;
-            }
-        }
-        false
+        self.contents
+            .rules
+            .as_slice()
+            .iter()
+            .any(|rule| self.fits(rule, link))
     }
 
-    fn fits(&self, rule: &Rule, basis: u32, role: u32, own: Set<Roles>, depth: u32) -> bool
-        requires exist { RuleRoles (count (policy self.now.contents)) rule.now }
-        ensures { Decides result (Fits (policy self.now.contents) basis role (mask 32 own) depth rule.now) }
+    fn fits(&self, rule: &Rule, link: Link) -> bool
+        requires exist { RuleRoles (count self.now) rule.now }
+        ensures { IsTrue result ↔ Fits self.now link rule.now }
     {
-        self.is_below(rule.role, basis)
-            && self.row(rule.role).has(role)
-            && rule.required.is_inside(own)
-            && depth <= rule.links()
+        self.is_below(rule.role, link.basis)
+            && self.row(rule.role).has(link.role)
+            && rule.required.is_inside(link.own)
+            && link.depth <= rule.links()
     }
+}
+
+fn both_rows<K: Kind>(exclusion: &PairsAndLimits<K>) -> (&[Pair], &[Limit])
+    ensures pairs { result.0.now ≡ (rows exclusion.now).pairs }
+    ensures limits { result.1.now ≡ (rows exclusion.now).limits }
+{
+    (exclusion.left.rows(), exclusion.right.rows())
 }

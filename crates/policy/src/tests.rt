@@ -1,10 +1,14 @@
 // Drafts at every bound, the densest hierarchy that fits, and what a sealed policy answers.
 use crate::draft::Draft;
+use crate::hierarchy::Step;
 use crate::refusal::DraftRefusal;
 use crate::role::Marks;
+use crate::rule::Link;
 use crate::scope::Scope;
 use crate::sealed::Sealed;
 use sets::exclusion::Exclusion;
+use sets::limits::Limit;
+use sets::pairs::Pair;
 use sets::set::Set;
 use std::process::Abort;
 use std::test::Fail;
@@ -55,7 +59,10 @@ fn densest() -> Result<Draft, DraftRefusal> {
     let mut draft = roles(32)?;
     for distance in 1..11 {
         for junior in 0..(32 - distance) {
-            match draft.add_step(junior + distance, junior) {
+            match draft.add_step(Step {
+                senior: junior + distance,
+                junior: junior,
+            }) {
                 Ok(()) => {}
                 Err(DraftRefusal::TableFull) => return Ok(draft),
                 Err(refusal) => return Err(refusal),
@@ -80,11 +87,41 @@ fn the_densest_hierarchy(rt: HostRuntime) -> Result<(), Fail> {
 #[test]
 fn the_last_step(rt: HostRuntime) -> Result<(), Fail> {
     let mut draft = densest()?;
-    assert_eq!(rt; draft.add_step(31, 0), Err(DraftRefusal::TableFull));
-    assert_eq!(rt; draft.add_step(0, 31), Err(DraftRefusal::NotLower));
-    assert_eq!(rt; draft.add_step(31, 31), Err(DraftRefusal::NotLower));
-    assert_eq!(rt; draft.add_step(32, 0), Err(DraftRefusal::OutOfRange));
-    assert_eq!(rt; draft.add_step(0, 32), Err(DraftRefusal::OutOfRange));
+    assert_eq!(rt;
+        draft.add_step(Step {
+            senior: 31,
+            junior: 0
+        }),
+        Err(DraftRefusal::TableFull)
+    );
+    assert_eq!(rt;
+        draft.add_step(Step {
+            senior: 0,
+            junior: 31
+        }),
+        Err(DraftRefusal::NotLower)
+    );
+    assert_eq!(rt;
+        draft.add_step(Step {
+            senior: 31,
+            junior: 31
+        }),
+        Err(DraftRefusal::NotLower)
+    );
+    assert_eq!(rt;
+        draft.add_step(Step {
+            senior: 32,
+            junior: 0
+        }),
+        Err(DraftRefusal::OutOfRange)
+    );
+    assert_eq!(rt;
+        draft.add_step(Step {
+            senior: 0,
+            junior: 32
+        }),
+        Err(DraftRefusal::OutOfRange)
+    );
     Ok(())
 }
 
@@ -92,19 +129,43 @@ fn the_last_step(rt: HostRuntime) -> Result<(), Fail> {
 #[test]
 fn roles_to_come(rt: HostRuntime) -> Result<(), Fail> {
     let mut draft = roles(2)?;
-    assert_eq!(rt; draft.add_step(2, 1), Err(DraftRefusal::OutOfRange));
     assert_eq!(rt;
-        draft.add_pair(Scope::Standing, 0, 2),
+        draft.add_step(Step {
+            senior: 2,
+            junior: 1
+        }),
         Err(DraftRefusal::OutOfRange)
     );
     assert_eq!(rt;
-        draft.add_limit(Scope::Session, 0b100, 0),
+        draft.add_pair(
+            Scope::Standing,
+            Pair {
+                first: 0,
+                second: 2
+            }
+        ),
+        Err(DraftRefusal::OutOfRange)
+    );
+    assert_eq!(rt;
+        draft.add_limit(
+            Scope::Session,
+            Limit {
+                members: 0b100,
+                most: 0
+            }
+        ),
         Err(DraftRefusal::OutOfRange)
     );
     assert_eq!(rt; draft.add_rule(2, 0, 0), Err(DraftRefusal::OutOfRange));
     assert_eq!(rt; draft.add_rule(1, 0b100, 0), Err(DraftRefusal::OutOfRange));
     assert_eq!(rt; draft.add_role(0, NO_MARKS), Ok(2));
-    assert_eq!(rt; draft.add_step(2, 1), Ok(()));
+    assert_eq!(rt;
+        draft.add_step(Step {
+            senior: 2,
+            junior: 1
+        }),
+        Ok(())
+    );
     Ok(())
 }
 
@@ -112,25 +173,55 @@ fn roles_to_come(rt: HostRuntime) -> Result<(), Fail> {
 fn last_pair(rt: &impl Abort, scope: Scope, place: u32) -> Result<(), Fail> {
     let mut draft = roles(20)?;
     for _ in 0..128 {
-        draft.add_pair(scope, 0, 1)?;
+        draft.add_pair(
+            scope,
+            Pair {
+                first: 0,
+                second: 1,
+            },
+        )?;
     }
     assert_eq!(rt;
-        draft.add_pair(scope, 0, 1),
+        draft.add_pair(
+            scope,
+            Pair {
+                first: 0,
+                second: 1
+            }
+        ),
         Err(DraftRefusal::TableFull),
         "{scope:?}"
     );
     assert_eq!(rt;
-        draft.add_pair(scope, 1, 1),
+        draft.add_pair(
+            scope,
+            Pair {
+                first: 1,
+                second: 1
+            }
+        ),
         Err(DraftRefusal::EqualPair),
         "{scope:?}"
     );
     assert_eq!(rt;
-        draft.add_pair(scope, 1, place),
+        draft.add_pair(
+            scope,
+            Pair {
+                first: 1,
+                second: place
+            }
+        ),
         Err(DraftRefusal::OutOfRange),
         "{scope:?}"
     );
     assert_eq!(rt;
-        draft.add_pair(scope, place, place),
+        draft.add_pair(
+            scope,
+            Pair {
+                first: place,
+                second: place
+            }
+        ),
         Err(DraftRefusal::OutOfRange),
         "{scope:?}"
     );
@@ -149,25 +240,49 @@ fn the_last_pairs(rt: HostRuntime) -> Result<(), Fail> {
 fn last_limit(rt: &impl Abort, scope: Scope, members: u64, outside: u64) -> Result<(), Fail> {
     let mut draft = roles(20)?;
     for _ in 0..16 {
-        draft.add_limit(scope, members, 31)?;
+        draft.add_limit(scope, Limit { members, most: 31 })?;
     }
     assert_eq!(rt;
-        draft.add_limit(scope, 1, 0),
+        draft.add_limit(
+            scope,
+            Limit {
+                members: 1,
+                most: 0
+            }
+        ),
         Err(DraftRefusal::TableFull),
         "{scope:?}"
     );
     assert_eq!(rt;
-        draft.add_limit(scope, 1, 32),
+        draft.add_limit(
+            scope,
+            Limit {
+                members: 1,
+                most: 32
+            }
+        ),
         Err(DraftRefusal::OutOfRange),
         "{scope:?}"
     );
     assert_eq!(rt;
-        draft.add_limit(scope, outside, 0),
+        draft.add_limit(
+            scope,
+            Limit {
+                members: outside,
+                most: 0
+            }
+        ),
         Err(DraftRefusal::OutOfRange),
         "{scope:?}"
     );
     assert_eq!(rt;
-        draft.add_limit(scope, u64::MAX, 0),
+        draft.add_limit(
+            scope,
+            Limit {
+                members: u64::MAX,
+                most: 0
+            }
+        ),
         Err(DraftRefusal::OutOfRange),
         "{scope:?}"
     );
@@ -206,9 +321,27 @@ fn the_last_rule(rt: HostRuntime) -> Result<(), Fail> {
 #[test]
 fn three_exclusions(rt: HostRuntime) -> Result<(), Fail> {
     let mut draft = roles(3)?;
-    draft.add_pair(Scope::Standing, 0, 1)?;
-    draft.add_limit(Scope::Session, 0b110, 1)?;
-    draft.add_pair(Scope::History, 14, 15)?;
+    draft.add_pair(
+        Scope::Standing,
+        Pair {
+            first: 0,
+            second: 1,
+        },
+    )?;
+    draft.add_limit(
+        Scope::Session,
+        Limit {
+            members: 0b110,
+            most: 1,
+        },
+    )?;
+    draft.add_pair(
+        Scope::History,
+        Pair {
+            first: 14,
+            second: 15,
+        },
+    )?;
     let policy = draft.seal();
     assert!(rt; !policy.standing().allows(Set::one(0).with(1)));
     assert!(rt; policy.standing().allows(Set::one(1).with(2)));
@@ -223,18 +356,69 @@ fn three_exclusions(rt: HostRuntime) -> Result<(), Fail> {
 #[test]
 fn rules_fit(rt: HostRuntime) -> Result<(), Fail> {
     let mut draft = roles(4)?;
-    draft.add_step(3, 2)?;
-    draft.add_step(3, 1)?;
-    draft.add_step(1, 0)?;
+    draft.add_step(Step {
+        senior: 3,
+        junior: 2,
+    })?;
+    draft.add_step(Step {
+        senior: 3,
+        junior: 1,
+    })?;
+    draft.add_step(Step {
+        senior: 1,
+        junior: 0,
+    })?;
     draft.add_rule(1, 0b0100, 0)?;
     let policy = draft.seal();
     let own = Set::one(2);
-    assert!(rt; policy.rule_fits(3, 0, own, 2));
-    assert!(rt; policy.rule_fits(1, 1, own.with(3), 1));
-    assert!(rt; !policy.rule_fits(0, 0, own, 1));
-    assert!(rt; !policy.rule_fits(3, 2, own, 1));
-    assert!(rt; !policy.rule_fits(3, 0, Set::one(1), 1));
-    assert!(rt; !policy.rule_fits(3, 0, own, 3));
+    assert!(rt;
+        policy.rule_fits(Link {
+            basis: 3,
+            role: 0,
+            own,
+            depth: 2
+        })
+    );
+    assert!(rt;
+        policy.rule_fits(Link {
+            basis: 1,
+            role: 1,
+            own: own.with(3),
+            depth: 1
+        })
+    );
+    assert!(rt;
+        !policy.rule_fits(Link {
+            basis: 0,
+            role: 0,
+            own,
+            depth: 1
+        })
+    );
+    assert!(rt;
+        !policy.rule_fits(Link {
+            basis: 3,
+            role: 2,
+            own,
+            depth: 1
+        })
+    );
+    assert!(rt;
+        !policy.rule_fits(Link {
+            basis: 3,
+            role: 0,
+            own: Set::one(1),
+            depth: 1
+        })
+    );
+    assert!(rt;
+        !policy.rule_fits(Link {
+            basis: 3,
+            role: 0,
+            own,
+            depth: 3
+        })
+    );
     Ok(())
 }
 
@@ -244,6 +428,13 @@ fn an_empty_policy(rt: HostRuntime) {
     assert_eq!(rt; policy.role_count(), 0);
     assert_eq!(rt; policy.below(0), Set::empty());
     assert!(rt; !policy.is_below(0, 0));
-    assert!(rt; !policy.rule_fits(0, 0, Set::empty(), 0));
+    assert!(rt;
+        !policy.rule_fits(Link {
+            basis: 0,
+            role: 0,
+            own: Set::empty(),
+            depth: 0
+        })
+    );
     assert!(rt; policy.standing().allows(Set::one(0).with(1)));
 }

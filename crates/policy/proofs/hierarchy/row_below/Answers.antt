@@ -1,4 +1,4 @@
-use Rattle.policy.proofs.Below.{finish, follow, junior_below, skip, start}
+use Rattle.policy.proofs.Below.{follow, skip, start}
 use Rattle.policy.proofs.hierarchy.row_below.Goals as goal
 use Rattle.policy.proofs.hierarchy.row_below.Goals.{then-step-role, else-step-role}
 
@@ -13,9 +13,3 @@ loop-step-preserved c =
       | else-step-role w ↦
           rw w.row-is (skip c.args.steps.now c.args.role c.loop-step.step-index _ c.loop-step-test.true c.loop-step.row w.if-step-role.false c.loop-step.invariant)
     ]
-
-pub returns : goal.returns
-returns c = finish c.args.steps.now c.args.role c.loop-step.step-index c.loop-step.row c.loop-step-test.false c.loop-step.invariant
-
-pub bounds-lower_rows-step : goal.bounds-lower_rows-step
-bounds-lower_rows-step c = junior_below c.args.steps.now c.args.role c.loop-step.step-index _ c.loop-step-test.true 32 c.requires.lower c.if-step-role.true c.requires.few

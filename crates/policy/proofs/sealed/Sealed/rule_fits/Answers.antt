@@ -1,30 +1,21 @@
-use Rattle.policy.specs.Policies.{count, policy, set_of}
+use Rattle.std.proofs.Common.{◌≡◌, ◌↔◌, IsTrue, Bool, true, false, List, length, MatchBool, refl, ap, subst, ◌∙◌, rules, tests}
+use Rattle.std.specs.List.{AllWithin}
+use Rattle.std.proofs.lemmas.Bool.{false≢true}
+use Rattle.std.proofs.lemmas.Iterator.{YieldsList-from_slice, cases_from_any}
+use Rattle.std.proofs.lemmas.List.Folds.{none_from_all_within}
+use Rattle.policy.specs.Policies.{Policy}
 use Rattle.policy.specs.Rules.{Fits}
-use Rattle.policy.specs.Sound.{RuleRoles}
 use Rattle.policy.specs.declared.rule.Rule.{Rule}
-use Rattle.policy.proofs.Rules.{walked_found, walked_has, walked_on, walked_past}
 use Rattle.policy.proofs.sealed.Sealed.rule_fits.Goals as goal
-use Rattle.sets.specs.Sets.{mask}
+use Rattle.sets.specs.Rows.{SomeRow}
 
-no_rule : Rule
-no_rule = record { role = 0; required = set_of 0; depth = 0 }
-
-pub fits-requires : goal.fits-requires
-fits-requires c =
-    let p = policy c.args.self.now.contents in
-    record { exist = walked_has p.rules c.rules-rule-items.result.now c.rules-rule-items.ensures (RuleRoles (count p)) c.loop-rule.rule-index _ c.loop-rule-test.true c.args.self.now.rules_exist }
-
-pub returns-then-fits : goal.returns-then-fits
-returns-then-fits c =
-    let p = policy c.args.self.now.contents in
-    walked_found (Fits p c.args.basis c.args.role (mask 32 c.args.own) c.args.depth) p.rules c.rules-rule-items.result.now c.rules-rule-items.ensures c.loop-rule.rule-index _ c.fits.result c.loop-rule-test.true c.fits.ensures c.if-fits.true
-
-pub loop-rule-preserved : goal.loop-rule-preserved
-loop-rule-preserved c =
-    let p = policy c.args.self.now.contents in
-    walked_on (Fits p c.args.basis c.args.role (mask 32 c.args.own) c.args.depth) p.rules c.rules-rule-items.result.now c.rules-rule-items.ensures c.loop-rule.rule-index _ c.fits.result c.loop-rule-test.true c.fits.ensures c.if-fits.false c.loop-rule.invariant
+found : (P : Rule → Type 0) (rules : List Rule) (r : Bool) → MatchBool r (SomeRow P rules) (AllWithin (λ rule. P rule → ⊥) rules 0 (length rules)) → IsTrue r ↔ SomeRow P rules
+found P rules true some = (λ _. some, λ _. refl)
+found P rules false none = (λ e. absurd (false≢true e), λ some. absurd (none_from_all_within P rules none some))
 
 pub returns : goal.returns
 returns c =
-    let p = policy c.args.self.now.contents in
-    walked_past (Fits p c.args.basis c.args.role (mask 32 c.args.own) c.args.depth) p.rules c.rules-rule-items.result.now c.rules-rule-items.ensures c.loop-rule.rule-index no_rule c.loop-rule-test.false c.loop-rule.invariant
+    let P : Rule → Type 0 = Fits c.args.self.now c.args.link in
+    let same : c.as_slice.result.now ≡ c.args.self.now.rules = c.as_slice.ensures.items ∙ ap (λ (p : Policy). p.rules) c.self.view_is in
+    let told = cases_from_any _ _ _ P (λ rule. P rule → ⊥) c.any.ensures.ran (YieldsList-from_slice c.as_slice.result.now cc) (λ x q k. search (rules, tests)) (λ x q k. search (rules, tests)) in
+    subst (λ (xs : List Rule). IsTrue c.any.result ↔ SomeRow P xs) same (found P c.as_slice.result.now c.any.result told)

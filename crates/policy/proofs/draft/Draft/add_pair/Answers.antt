@@ -1,0 +1,12 @@
+use Rattle.policy.specs.declared.scope.Scope.TheVariants.{Standing, Session, History}
+use Rattle.policy.proofs.Sound.{sound_pair}
+use Rattle.policy.proofs.draft.Draft.add_pair.Goals as goal
+
+pub invariant_of-self : goal.invariant_of-self
+invariant_of-self c = sound_pair c.self.view_is Standing c.args.pair _ c.in-Standing.is c.places.ensures c.in_ok-check.ensures c.in_ok-add-in-Standing.ensures c.self.invariant
+
+pub invariant_of-self-in-Continue-branch-3 : goal.invariant_of-self-in-Continue-branch-3
+invariant_of-self-in-Continue-branch-3 c = sound_pair c.self.view_is Session c.args.pair _ c.in-Session.is c.places.ensures c.in_ok-check.ensures c.in_ok-add-in-Session.ensures c.self.invariant
+
+pub invariant_of-self-in-Continue-branch-4 : goal.invariant_of-self-in-Continue-branch-4
+invariant_of-self-in-Continue-branch-4 c = sound_pair c.self.view_is History c.args.pair _ c.in-History.is c.places.ensures c.in_ok-check.ensures c.in_ok-add-in-History.ensures c.self.invariant
