@@ -4,7 +4,7 @@ use Rattle.sets.specs.Sets.{mask}
 use Rattle.quotation.specs.People.{Found, Nobody, Proposed, Takes}
 use Rattle.quotation.specs.declared.act.Act.{Act}
 use Rattle.quotation.specs.declared.person.Person.{Person}
-use Rattle.quotation.specs.declared.rules.Verdict.{Verdict}
+use Rattle.quotation.specs.Studio.{Verdict}
 use Rattle.std.proofs.lemmas.List.Elements.{at_read}
 
 module _ (name : List ℕ) (act : Act) (people slice : List Person) (same : slice ≡ people) (v : Verdict) (p q : Person) where

@@ -1,10 +1,9 @@
 -- Who stands where among the people of a quotation, and what a proposal does to them. Assumes nothing.
-use Rattle.std.specs.Prelude.{◌≡◌, ℕ, ◌^◌, ◌<◌, cond, ◌≢◌, ◌⊎◌, List, [], ◌∷◌, ◌++◌, length, string_bytes, bit_or, slice_set}
+use Rattle.std.specs.Prelude.{◌≡◌, ℕ, ◌^◌, ◌<◌, if◌then◌else◌, ◌≢◌, ◌⊎◌, List, [], ◌∷◌, ◌++◌, length, is_ok, string_bytes, bit_or, slice_set}
 use Rattle.sets.specs.Sets.{mask}
-use Rattle.quotation.specs.Studio.{act_number, allowed, judged}
+use Rattle.quotation.specs.Studio.{Verdict, act_number, judged}
 use Rattle.quotation.specs.declared.act.Act.{Act}
 use Rattle.quotation.specs.declared.person.Person.{Person}
-use Rattle.quotation.specs.declared.rules.Verdict.{Verdict}
 use Rattle.std.specs.List.{HoldsAt, AllWithin}
 
 -- none of the first n people has the name
@@ -18,7 +17,7 @@ Found name people i = (i < length people) × HoldsAt (λ p. string_bytes p.name 
 -- somebody who had done some acts proposes one: the verdict is on all of them together, and the act is done where it is allowed
 abbrev pub Takes : Act → ℕ → Verdict → Person → Type 0
 Takes act done v after =
-    (v ≡ judged (bit_or done (2 ^ act_number act))) × (mask 16 after.done ≡ cond (allowed v) (bit_or done (2 ^ act_number act)) done)
+    (v ≡ judged (bit_or done (2 ^ act_number act))) × (mask 16 after.done ≡ (if is_ok v then bit_or done (2 ^ act_number act) else done))
 
 -- a proposal is taken by the first person of that name, or by somebody new who stands behind all others; nobody else changes
 abbrev pub Proposed : List ℕ → Act → List Person → Verdict → List Person → Type 0

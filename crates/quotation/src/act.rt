@@ -1,6 +1,10 @@
 // The acts on a quotation that the studio's rules speak of.
-ghost use Rattle.std.specs.Prelude.{◌≡◌, MatchOption, ◌≢◌};
-ghost use Rattle.quotation.specs.Studio.{act_number, act_word};
+ghost use Rattle.std.specs.Prelude.{◌≡◌, MatchResult, Some, codes};
+ghost use Rattle.quotation.specs.Studio.{NoAct, act_number, act_word};
+
+use std::error::Error;
+use std::fmt;
+use std::str::FromStr;
 
 #[derive(Clone, Copy, PartialEq, Eq, Debug)]
 pub enum Act {
@@ -11,6 +15,10 @@ pub enum Act {
 
 // The acts in the order of their numbers.
 pub const ACTS: [Act; 3] = [Act::Price, Act::Check, Act::Release];
+
+// The word is for no act.
+#[derive(Clone, Copy, PartialEq, Eq, Debug)]
+pub struct UnknownAct;
 
 impl Act {
     // The act's number, its place in a set of acts.
@@ -30,16 +38,38 @@ impl Act {
             Act::Release => "release",
         }
     }
+}
 
-    // The act that the word names.
-    pub fn from_word(word: &str) -> Option<Act>
-        ensures { MatchOption result ((a : Act) → act_word a ≢ word.now) (λ a. act_word a ≡ word.now) }
-    {
+// The act that a word is for.
+impl FromStr for Act {
+    type Err = UnknownAct;
+
+    ghost from_str_gives = { λ word r. MatchResult r (λ a. act_word a ≡ word) (λ _. NoAct word) };
+
+    fn from_str(word: &str) -> Result<Act, UnknownAct> {
         match word {
-            "price" => Some(Act::Price),
-            "check" => Some(Act::Check),
-            "release" => Some(Act::Release),
-            _ => None,
+            "price" => Ok(Act::Price),
+            "check" => Ok(Act::Check),
+            "release" => Ok(Act::Release),
+            _ => Err(UnknownAct),
         }
+    }
+}
+
+impl fmt::Display for UnknownAct {
+    ghost output = { λ _. Some (codes "no such act") };
+
+    fn fmt<W: fmt::Write>(&self, f: &mut fmt::Formatter<W>) -> fmt::Result {
+        f.write_str("no such act")
+    }
+}
+
+impl Error for UnknownAct {}
+
+impl fmt::Display for Act {
+    ghost output = { λ a. Some (act_word a) };
+
+    fn fmt<W: fmt::Write>(&self, f: &mut fmt::Formatter<W>) -> fmt::Result {
+        f.write_str(self.word())
     }
 }

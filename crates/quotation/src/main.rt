@@ -20,10 +20,10 @@ fn run(rt: &HostRuntime) -> anyhow::Result<()> {
             continue;
         }
         match read_proposal(text) {
-            Some(proposal) => {
-                let verdict = quotation.propose(heap, &rules, proposal)?;
-                println!(rt; "{text}: {verdict}")?;
-            }
+            Some(proposal) => match quotation.propose(heap, &rules, proposal)? {
+                Ok(()) => println!(rt; "{text}: allowed")?,
+                Err(forbidden) => println!(rt; "{text}: {forbidden}")?,
+            },
             None => println!(rt; "{text}: no proposal")?,
         }
     }

@@ -1,6 +1,6 @@
 // Somebody at the studio, and what they have done on the quotation.
-ghost use Rattle.std.specs.Prelude.{◌≡◌, ◌%◌, ◌^◌, if◌then◌else◌, string_bytes, bit_or};
-ghost use Rattle.quotation.specs.Studio.{act_number, allowed, judged, Lawful};
+ghost use Rattle.std.specs.Prelude.{◌≡◌, ◌^◌, if◌then◌else◌, is_ok, string_bytes, bit_or};
+ghost use Rattle.quotation.specs.Studio.{act_number, judged, Lawful};
 ghost use Rattle.sets.specs.Sets.{mask};
 
 use crate::act::{ACTS, Act};
@@ -14,7 +14,7 @@ use std::fmt;
 pub struct Person {
     name: String,
     done: Set<Acts>,
-    ghost lawful: { Lawful (done.bits % 2 ^ 16) },
+    ghost lawful: { Lawful (mask 16 done) },
 }
 
 impl Person {
@@ -39,15 +39,13 @@ impl Person {
     // Proposes an act: the rules are asked about all that this person would then have done, and the act is done where they allow it.
     pub fn propose(&mut self, rules: &StudioRules, act: Act) -> Verdict
         ensures verdict { result ≡ judged (bit_or (mask 16 self.old.done) (2 ^ act_number act)) }
-        ensures done { mask 16 self.new.done ≡ (if allowed result then bit_or (mask 16 self.old.done) (2 ^ act_number act) else mask 16 self.old.done) }
+        ensures done { mask 16 self.new.done ≡ (if is_ok result then bit_or (mask 16 self.old.done) (2 ^ act_number act) else mask 16 self.old.done) }
         ensures name { self.new.name ≡ self.old.name }
     {
         let then = self.done.with(act.number());
-        let verdict = rules.judge(then);
-        if verdict == Verdict::Allowed {
-            self.done = then;
-        }
-        verdict
+        rules.judge(then)?;
+        self.done = then;
+        Ok(())
     }
 }
 
@@ -58,8 +56,7 @@ impl fmt::Display for Person {
         write!(f, "{name}:")?;
         for act in ACTS {
             if self.done.has(act.number()) {
-                let word = act.word();
-                write!(f, " {word}")?;
+                write!(f, " {act}")?;
             }
         }
         Ok(())

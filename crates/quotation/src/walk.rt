@@ -6,6 +6,7 @@ use crate::act::Act;
 use crate::person::Person;
 use crate::rules::{StudioRules, Verdict};
 use std::alloc::{AllocError, Global};
+use std::marker::Model;
 
 // An act that somebody proposes to take.
 #[derive(Clone, Copy)]
@@ -18,7 +19,7 @@ pub struct Proposal<'a> {
 pub fn read_proposal(line: &str) -> Option<Proposal<'_>> {
     let mut words = line.split_whitespace();
     let name = words.next()?;
-    let act = Act::from_word(words.next()?)?;
+    let act = words.next()?.parse().ok()?;
     if words.next().is_some() {
         return None;
     }
@@ -29,23 +30,27 @@ pub fn read_proposal(line: &str) -> Option<Proposal<'_>> {
 fn find(people: &[Person], name: &str) -> Option<usize>
     ensures { MatchOption result (Nobody name.now people.now (length people.now)) (Found name.now people.now) }
 {
-    for (i, person) in people.iter().enumerate() {
-        if person.name() == name {
-            return Some(i);
-        }
-    }
-    None
+    people.iter().position(|person| person.name() == name)
 }
 
-// The people who have come forward for the quotation, in the order in which they did.
+// The people who have come forward for the quotation, in the order in which they did. To contracts a quotation is the list of them.
 #[derive(Drop)]
 pub struct Quotation {
     people: Vec<Person>,
 }
 
+impl Model for Quotation {
+    ghost use Rattle.std.specs.Prelude.{List};
+    ghost use Rattle.quotation.specs.declared.person.Person.{Person};
+
+    ghost Value = { List Person };
+
+    ghost view = { λ quotation. quotation.people.items };
+}
+
 impl Quotation {
     pub fn new(heap: Global) -> Quotation
-        ensures { result.people.items ≡ [] }
+        ensures { result ≡ [] }
     {
         Quotation {
             people: Vec::new(heap),
@@ -53,7 +58,7 @@ impl Quotation {
     }
 
     pub fn people(&self) -> &[Person]
-        ensures { result.now ≡ self.now.people.items }
+        ensures { result.now ≡ self.now }
     {
         self.people.as_slice()
     }
@@ -65,9 +70,9 @@ impl Quotation {
         rules: &StudioRules,
         proposal: Proposal<'_>,
     ) -> Result<Verdict, AllocError>
-        ensures { MatchResult result (λ v. Proposed proposal.entry.name.now proposal.entry.act self.old.people.items v self.new.people.items) (λ _. self.new.people.items ≡ self.old.people.items) }
+        ensures { MatchResult result (λ v. Proposed proposal.entry.name.now proposal.entry.act self.old v self.new) (λ _. self.new ≡ self.old) }
     {
-        if let Some(i) = find(self.people.as_slice(), proposal.name) {
+        if let Some(i) = find(&self.people, proposal.name) {
             return Ok(self.people[i].propose(rules, proposal.act));
         }
         let mut person = Person::new(String::from_str(heap, proposal.name)?);
