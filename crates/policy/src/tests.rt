@@ -18,6 +18,18 @@ const NO_MARKS: Marks = Marks {
     grant_independent: false,
 };
 
+fn step(senior: u32, junior: u32) -> Step {
+    Step { senior, junior }
+}
+
+fn pair(first: u32, second: u32) -> Pair {
+    Pair { first, second }
+}
+
+fn limit(members: u64, most: u32) -> Limit {
+    Limit { members, most }
+}
+
 // A draft with so many roles, which may do nothing.
 fn roles(count: u32) -> Result<Draft, DraftRefusal> {
     let mut draft = Draft::new();
@@ -59,10 +71,7 @@ fn densest() -> Result<Draft, DraftRefusal> {
     let mut draft = roles(32)?;
     for distance in 1..11 {
         for junior in 0..(32 - distance) {
-            match draft.add_step(Step {
-                senior: junior + distance,
-                junior: junior,
-            }) {
+            match draft.add_step(step(junior + distance, junior)) {
                 Ok(()) => {}
                 Err(DraftRefusal::TableFull) => return Ok(draft),
                 Err(refusal) => return Err(refusal),
@@ -87,41 +96,11 @@ fn the_densest_hierarchy(rt: HostRuntime) -> Result<(), Fail> {
 #[test]
 fn the_last_step(rt: HostRuntime) -> Result<(), Fail> {
     let mut draft = densest()?;
-    assert_eq!(rt;
-        draft.add_step(Step {
-            senior: 31,
-            junior: 0
-        }),
-        Err(DraftRefusal::TableFull)
-    );
-    assert_eq!(rt;
-        draft.add_step(Step {
-            senior: 0,
-            junior: 31
-        }),
-        Err(DraftRefusal::NotLower)
-    );
-    assert_eq!(rt;
-        draft.add_step(Step {
-            senior: 31,
-            junior: 31
-        }),
-        Err(DraftRefusal::NotLower)
-    );
-    assert_eq!(rt;
-        draft.add_step(Step {
-            senior: 32,
-            junior: 0
-        }),
-        Err(DraftRefusal::OutOfRange)
-    );
-    assert_eq!(rt;
-        draft.add_step(Step {
-            senior: 0,
-            junior: 32
-        }),
-        Err(DraftRefusal::OutOfRange)
-    );
+    assert_eq!(rt; draft.add_step(step(31, 0)), Err(DraftRefusal::TableFull));
+    assert_eq!(rt; draft.add_step(step(0, 31)), Err(DraftRefusal::NotLower));
+    assert_eq!(rt; draft.add_step(step(31, 31)), Err(DraftRefusal::NotLower));
+    assert_eq!(rt; draft.add_step(step(32, 0)), Err(DraftRefusal::OutOfRange));
+    assert_eq!(rt; draft.add_step(step(0, 32)), Err(DraftRefusal::OutOfRange));
     Ok(())
 }
 
@@ -129,43 +108,19 @@ fn the_last_step(rt: HostRuntime) -> Result<(), Fail> {
 #[test]
 fn roles_to_come(rt: HostRuntime) -> Result<(), Fail> {
     let mut draft = roles(2)?;
+    assert_eq!(rt; draft.add_step(step(2, 1)), Err(DraftRefusal::OutOfRange));
     assert_eq!(rt;
-        draft.add_step(Step {
-            senior: 2,
-            junior: 1
-        }),
+        draft.add_pair(Scope::Standing, pair(0, 2)),
         Err(DraftRefusal::OutOfRange)
     );
     assert_eq!(rt;
-        draft.add_pair(
-            Scope::Standing,
-            Pair {
-                first: 0,
-                second: 2
-            }
-        ),
-        Err(DraftRefusal::OutOfRange)
-    );
-    assert_eq!(rt;
-        draft.add_limit(
-            Scope::Session,
-            Limit {
-                members: 0b100,
-                most: 0
-            }
-        ),
+        draft.add_limit(Scope::Session, limit(0b100, 0)),
         Err(DraftRefusal::OutOfRange)
     );
     assert_eq!(rt; draft.add_rule(2, 0, 0), Err(DraftRefusal::OutOfRange));
     assert_eq!(rt; draft.add_rule(1, 0b100, 0), Err(DraftRefusal::OutOfRange));
     assert_eq!(rt; draft.add_role(0, NO_MARKS), Ok(2));
-    assert_eq!(rt;
-        draft.add_step(Step {
-            senior: 2,
-            junior: 1
-        }),
-        Ok(())
-    );
+    assert_eq!(rt; draft.add_step(step(2, 1)), Ok(()));
     Ok(())
 }
 
@@ -173,55 +128,25 @@ fn roles_to_come(rt: HostRuntime) -> Result<(), Fail> {
 fn last_pair(rt: &impl Abort, scope: Scope, place: u32) -> Result<(), Fail> {
     let mut draft = roles(20)?;
     for _ in 0..128 {
-        draft.add_pair(
-            scope,
-            Pair {
-                first: 0,
-                second: 1,
-            },
-        )?;
+        draft.add_pair(scope, pair(0, 1))?;
     }
     assert_eq!(rt;
-        draft.add_pair(
-            scope,
-            Pair {
-                first: 0,
-                second: 1
-            }
-        ),
+        draft.add_pair(scope, pair(0, 1)),
         Err(DraftRefusal::TableFull),
         "{scope:?}"
     );
     assert_eq!(rt;
-        draft.add_pair(
-            scope,
-            Pair {
-                first: 1,
-                second: 1
-            }
-        ),
+        draft.add_pair(scope, pair(1, 1)),
         Err(DraftRefusal::EqualPair),
         "{scope:?}"
     );
     assert_eq!(rt;
-        draft.add_pair(
-            scope,
-            Pair {
-                first: 1,
-                second: place
-            }
-        ),
+        draft.add_pair(scope, pair(1, place)),
         Err(DraftRefusal::OutOfRange),
         "{scope:?}"
     );
     assert_eq!(rt;
-        draft.add_pair(
-            scope,
-            Pair {
-                first: place,
-                second: place
-            }
-        ),
+        draft.add_pair(scope, pair(place, place)),
         Err(DraftRefusal::OutOfRange),
         "{scope:?}"
     );
@@ -240,49 +165,25 @@ fn the_last_pairs(rt: HostRuntime) -> Result<(), Fail> {
 fn last_limit(rt: &impl Abort, scope: Scope, members: u64, outside: u64) -> Result<(), Fail> {
     let mut draft = roles(20)?;
     for _ in 0..16 {
-        draft.add_limit(scope, Limit { members, most: 31 })?;
+        draft.add_limit(scope, limit(members, 31))?;
     }
     assert_eq!(rt;
-        draft.add_limit(
-            scope,
-            Limit {
-                members: 1,
-                most: 0
-            }
-        ),
+        draft.add_limit(scope, limit(1, 0)),
         Err(DraftRefusal::TableFull),
         "{scope:?}"
     );
     assert_eq!(rt;
-        draft.add_limit(
-            scope,
-            Limit {
-                members: 1,
-                most: 32
-            }
-        ),
+        draft.add_limit(scope, limit(1, 32)),
         Err(DraftRefusal::OutOfRange),
         "{scope:?}"
     );
     assert_eq!(rt;
-        draft.add_limit(
-            scope,
-            Limit {
-                members: outside,
-                most: 0
-            }
-        ),
+        draft.add_limit(scope, limit(outside, 0)),
         Err(DraftRefusal::OutOfRange),
         "{scope:?}"
     );
     assert_eq!(rt;
-        draft.add_limit(
-            scope,
-            Limit {
-                members: u64::MAX,
-                most: 0
-            }
-        ),
+        draft.add_limit(scope, limit(u64::MAX, 0)),
         Err(DraftRefusal::OutOfRange),
         "{scope:?}"
     );
@@ -321,27 +222,9 @@ fn the_last_rule(rt: HostRuntime) -> Result<(), Fail> {
 #[test]
 fn three_exclusions(rt: HostRuntime) -> Result<(), Fail> {
     let mut draft = roles(3)?;
-    draft.add_pair(
-        Scope::Standing,
-        Pair {
-            first: 0,
-            second: 1,
-        },
-    )?;
-    draft.add_limit(
-        Scope::Session,
-        Limit {
-            members: 0b110,
-            most: 1,
-        },
-    )?;
-    draft.add_pair(
-        Scope::History,
-        Pair {
-            first: 14,
-            second: 15,
-        },
-    )?;
+    draft.add_pair(Scope::Standing, pair(0, 1))?;
+    draft.add_limit(Scope::Session, limit(0b110, 1))?;
+    draft.add_pair(Scope::History, pair(14, 15))?;
     let policy = draft.seal();
     assert!(rt; !policy.standing().allows(Set::one(0).with(1)));
     assert!(rt; policy.standing().allows(Set::one(1).with(2)));
@@ -356,29 +239,19 @@ fn three_exclusions(rt: HostRuntime) -> Result<(), Fail> {
 #[test]
 fn rules_fit(rt: HostRuntime) -> Result<(), Fail> {
     let mut draft = roles(4)?;
-    draft.add_step(Step {
-        senior: 3,
-        junior: 2,
-    })?;
-    draft.add_step(Step {
-        senior: 3,
-        junior: 1,
-    })?;
-    draft.add_step(Step {
-        senior: 1,
-        junior: 0,
-    })?;
+    draft.add_step(step(3, 2))?;
+    draft.add_step(step(3, 1))?;
+    draft.add_step(step(1, 0))?;
     draft.add_rule(1, 0b0100, 0)?;
     let policy = draft.seal();
     let own = Set::one(2);
-    assert!(rt;
-        policy.rule_fits(Link {
-            basis: 3,
-            role: 0,
-            own,
-            depth: 2
-        })
-    );
+    let link = Link {
+        basis: 3,
+        role: 0,
+        own,
+        depth: 2,
+    };
+    assert!(rt; policy.rule_fits(link));
     assert!(rt;
         policy.rule_fits(Link {
             basis: 1,
@@ -390,35 +263,25 @@ fn rules_fit(rt: HostRuntime) -> Result<(), Fail> {
     assert!(rt;
         !policy.rule_fits(Link {
             basis: 0,
-            role: 0,
-            own,
-            depth: 1
+            depth: 1,
+            ..link
         })
     );
     assert!(rt;
         !policy.rule_fits(Link {
-            basis: 3,
             role: 2,
-            own,
-            depth: 1
+            depth: 1,
+            ..link
         })
     );
     assert!(rt;
         !policy.rule_fits(Link {
-            basis: 3,
-            role: 0,
             own: Set::one(1),
-            depth: 1
+            depth: 1,
+            ..link
         })
     );
-    assert!(rt;
-        !policy.rule_fits(Link {
-            basis: 3,
-            role: 0,
-            own,
-            depth: 3
-        })
-    );
+    assert!(rt; !policy.rule_fits(Link { depth: 3, ..link }));
     Ok(())
 }
 

@@ -24,6 +24,14 @@ impl Kind for Clients {
     ghost narrow = { ltb-false 64 48 refl };
 }
 
+fn pair(first: u32, second: u32) -> Pair {
+    Pair { first, second }
+}
+
+fn limit(members: u64, most: u32) -> Limit {
+    Limit { members, most }
+}
+
 // The highest member is one, and the place behind it is none.
 fn highest_member<K: Kind>(rt: &impl Abort, kind: &str, count: u32, highest: u32) {
     let set: Set<K> = Set::one(highest);
@@ -55,17 +63,11 @@ fn highest_rows<K: Kind>(
 ) -> Result<(), Fail> {
     let two: Set<K> = Set::one(highest).with(below);
     let mut pairs: Pairs<K> = Pairs::new();
-    pairs.add(Pair {
-        first: highest,
-        second: below,
-    })?;
+    pairs.add(pair(highest, below))?;
     assert!(rt; !pairs.allows(two), "{kind}");
     assert!(rt; pairs.allows(Set::one(highest)), "{kind}");
     let mut limits: Limits<K> = Limits::new();
-    limits.add(Limit {
-        members: two.mask(),
-        most: 1,
-    })?;
+    limits.add(limit(two.mask(), 1))?;
     assert!(rt; !limits.allows(two), "{kind}");
     assert!(rt; limits.allows(Set::one(highest)), "{kind}");
     Ok(())
@@ -113,40 +115,13 @@ fn unions_and_insides(rt: HostRuntime) {
 fn the_last_pair(rt: HostRuntime) -> Result<(), Fail> {
     let mut pairs: Pairs<Acts> = Pairs::new();
     for _ in 0..128 {
-        pairs.add(Pair {
-            first: 14,
-            second: 15,
-        })?;
+        pairs.add(pair(14, 15))?;
     }
     assert_eq!(rt; pairs.rows().len(), 128);
-    assert_eq!(rt;
-        pairs.add(Pair {
-            first: 14,
-            second: 15
-        }),
-        Err(RowRefusal::TableFull)
-    );
-    assert_eq!(rt;
-        pairs.add(Pair {
-            first: 15,
-            second: 15
-        }),
-        Err(RowRefusal::EqualPair)
-    );
-    assert_eq!(rt;
-        pairs.add(Pair {
-            first: 15,
-            second: 16
-        }),
-        Err(RowRefusal::OutOfRange)
-    );
-    assert_eq!(rt;
-        pairs.add(Pair {
-            first: 16,
-            second: 16
-        }),
-        Err(RowRefusal::OutOfRange)
-    );
+    assert_eq!(rt; pairs.add(pair(14, 15)), Err(RowRefusal::TableFull));
+    assert_eq!(rt; pairs.add(pair(15, 15)), Err(RowRefusal::EqualPair));
+    assert_eq!(rt; pairs.add(pair(15, 16)), Err(RowRefusal::OutOfRange));
+    assert_eq!(rt; pairs.add(pair(16, 16)), Err(RowRefusal::OutOfRange));
     assert!(rt; !pairs.allows(Set::one(14).with(15)));
     assert!(rt; pairs.allows(Set::one(15)));
     Ok(())
@@ -157,31 +132,13 @@ fn the_last_pair(rt: HostRuntime) -> Result<(), Fail> {
 fn the_last_limit(rt: HostRuntime) -> Result<(), Fail> {
     let mut limits: Limits<Roles> = Limits::new();
     for _ in 0..16 {
-        limits.add(Limit {
-            members: 0xffff_ffff,
-            most: 31,
-        })?;
+        limits.add(limit(0xffff_ffff, 31))?;
     }
     assert_eq!(rt; limits.rows().len(), 16);
+    assert_eq!(rt; limits.add(limit(1, 0)), Err(RowRefusal::TableFull));
+    assert_eq!(rt; limits.add(limit(1, 32)), Err(RowRefusal::OutOfRange));
     assert_eq!(rt;
-        limits.add(Limit {
-            members: 1,
-            most: 0
-        }),
-        Err(RowRefusal::TableFull)
-    );
-    assert_eq!(rt;
-        limits.add(Limit {
-            members: 1,
-            most: 32
-        }),
-        Err(RowRefusal::OutOfRange)
-    );
-    assert_eq!(rt;
-        limits.add(Limit {
-            members: 0x1_0000_0000,
-            most: 0
-        }),
+        limits.add(limit(0x1_0000_0000, 0)),
         Err(RowRefusal::OutOfRange)
     );
     let all: Set<Roles> = Set::try_from(0xffff_ffff)?;
@@ -193,15 +150,9 @@ fn the_last_limit(rt: HostRuntime) -> Result<(), Fail> {
 #[test]
 fn both_sides_are_asked(rt: HostRuntime) -> Result<(), Fail> {
     let mut left: Pairs<Clients> = Pairs::new();
-    left.add(Pair {
-        first: 46,
-        second: 47,
-    })?;
+    left.add(pair(46, 47))?;
     let mut right: Limits<Clients> = Limits::new();
-    right.add(Limit {
-        members: 1,
-        most: 0,
-    })?;
+    right.add(limit(1, 0))?;
     let both = Both { left, right };
     assert!(rt; !both.allows(Set::one(46).with(47)));
     assert!(rt; !both.allows(Set::one(0)));
