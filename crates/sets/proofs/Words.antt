@@ -1,5 +1,5 @@
 -- What each operation on words does to the places that count, for every number n of them.
-use Rattle.std.proofs.Common.{◌≡◌, ℕ, ◌+◌, ◌-◌, ◌*◌, ◌/◌, ◌%◌, ◌^◌, ◌<◌, ◌≤◌, min, Bool, true, false, not, ◌&&◌, eqb, ltb, Decides, sym, refl, ap, ◌∙◌, ⊎_elim, mod-eq_of_lt, arith, pow-add, pow_pos, subst, ◌*◌}
+use Rattle.std.proofs.Common.{◌≡◌, ℕ, ◌+◌, ◌-◌, ◌*◌, ◌/◌, ◌%◌, ◌^◌, ◌<◌, ◌≤◌, min, Bool, true, false, not, ◌&&◌, eqb, ltb, Decides, sym, refl, ap, ◌∙◌, ⊎_elim, mod-eq_of_lt, arith, pow-add, pow_mono, pow_pos, subst, ◌*◌}
 use Rattle.std.proofs.Math.Nat.{div-eq_of_lt, lt-div-mul-add, mul-mod_left, zero-mod}
 use Rattle.std.specs.Prelude.{◌≢◌, bit_and}
 use Rattle.std.specs.Int.{w64}
@@ -28,6 +28,10 @@ pub short_of_places : (n word : ℕ) → word / 2 ^ n ≡ 0 → word < 2 ^ n
 short_of_places n word z =
     let least : word < 0 * 2 ^ n + 2 ^ n = subst (λ q. word < q * 2 ^ n + 2 ^ n) z (lt-div-mul-add (pow_pos n)) in
     omega arith
+
+-- no word has a place past its 64
+pub all_short : (n word : ℕ) → 64 ≤ n → word < 2 ^ 64 → true ≡ ltb word (2 ^ n)
+all_short n word wide fits = let more = pow_mono wide in sym (lt-ltb word (2 ^ n) (omega arith))
 
 -- places of a word, and places past it
 pub has_here : (word place : ℕ) → eqb (word / 2 ^ place % 2) 1 ≡ has word place

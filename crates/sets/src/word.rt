@@ -23,7 +23,7 @@ pub(crate) fn cut<K: Kind>(word: u64) -> u64
 }
 
 // Whether all places of the word are below the given one.
-#[tactic(auto, using(crate::proofs::Words::past_places, crate::proofs::Words::short_of_places))]
+#[tactic(auto, using(crate::proofs::Words::all_short, crate::proofs::Words::past_places, crate::proofs::Words::short_of_places))]
 pub(crate) fn all_below(word: u64, place: u32) -> bool
     ensures { result ≡ nat_lt word (2 ^ place) }
 {
