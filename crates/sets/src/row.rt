@@ -48,6 +48,7 @@ pub trait Entry: Blank {
 }
 
 // Rows in the order in which they were added, at most N of them. A set is forbidden exactly where some row forbids it.
+#[derive_where(Copy)]
 pub struct Rows<K: Kind, R: Entry, const N: usize> {
     rows: Table<R, N>,
     kind: PhantomData<K>,
@@ -55,9 +56,7 @@ pub struct Rows<K: Kind, R: Entry, const N: usize> {
     ghost sound: { list_any (λ row. is_fault (R.fault K.COUNT row)) (items_of rows) ≡ false },
 }
 
-impl<K: Kind, R: Entry, const N: usize> Copy for Rows<K, R, N> {}
-
-// By hand, since it is not derived for a generic struct with a ghost field, and field by field, since only the row is known to be `Copy`.
+// By hand, since `Clone` is not derived for a generic struct with a ghost field, and field by field, since only the row is known to be `Copy`.
 impl<K: Kind, R: Entry, const N: usize> Clone for Rows<K, R, N> {
     ghost is_clone = { λ x y. y ≡ x };
 

@@ -23,10 +23,11 @@ pub struct Set<K: Kind> {
 }
 
 // Whether all members of a raw mask are below the place.
+#[tactic(auto, using(crate::proofs::Words::all_short, crate::proofs::Words::past_places, crate::proofs::Words::short_of_places))]
 pub fn is_below(mask: u64, place: u32) -> bool
     ensures { result ≡ nat_lt mask (2 ^ place) }
 {
-    word::all_below(mask, place)
+    place >= 64 || mask >> place == 0
 }
 
 // The set of a raw mask, refused where a bit is set outside the kind.

@@ -12,6 +12,7 @@ pub trait Blank: Copy + Default {
 }
 
 // The first `count` places are in use. The rules want fixed memory, and a table is copied, which the library's vector of fixed room is not.
+#[derive_where(Copy)]
 pub struct Table<T: Blank, const N: usize> {
     items: [T; N],
     count: usize,
@@ -20,9 +21,7 @@ pub struct Table<T: Blank, const N: usize> {
     ghost clean: { ∥ drop count items ≡ replicate (N - count) T.blank ∥₁ },
 }
 
-impl<T: Blank, const N: usize> Copy for Table<T, N> {}
-
-// By hand, since it is not derived for a generic struct with a ghost field.
+// By hand, since `Clone` is not derived for a generic struct with a ghost field.
 impl<T: Blank, const N: usize> Clone for Table<T, N> {
     ghost is_clone = { λ x y. y ≡ x };
 

@@ -22,14 +22,6 @@ pub(crate) fn cut<K: Kind>(word: u64) -> u64
     word & all_places::<K>()
 }
 
-// Whether all places of the word are below the given one.
-#[tactic(auto, using(crate::proofs::Words::all_short, crate::proofs::Words::past_places, crate::proofs::Words::short_of_places))]
-pub(crate) fn all_below(word: u64, place: u32) -> bool
-    ensures { result ≡ nat_lt word (2 ^ place) }
-{
-    place >= 64 || word >> place == 0
-}
-
 // No place.
 #[tactic(auto, using(crate::proofs::Words::none_members))]
 pub(crate) fn no_places() -> u64
