@@ -24,19 +24,17 @@ impl Blank for Step {
     ghost alone = { Prim.search rules };
 }
 
-// The roles below each of the first `count` roles. The rows of the lower roles are finished first, and the last row is joined from
-// them, so that each role goes through the steps once however dense they are.
+// The roles below each of the first `count` roles. The rows of the lower roles are finished before a role's own is joined from them, so
+// that each role goes through the steps once, however dense they are.
 pub(crate) fn rows_below(steps: &[Step], count: u32) -> [Set<Roles>; MOST_ROLES]
     requires few { count ≤ 32 }
     requires lower { All Falls steps.now }
     ensures { Exact steps.now count result }
 {
-    if count == 0 {
-        return [Set::empty(); MOST_ROLES];
+    let mut rows = [Set::empty(); MOST_ROLES];
+    for role in 0..count {
+        rows[role as usize] = row_below(steps, role, &rows);
     }
-    let role = count - 1;
-    let mut rows = rows_below(steps, role);
-    rows[role as usize] = row_below(steps, role, &rows);
     rows
 }
 
