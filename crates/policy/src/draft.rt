@@ -39,7 +39,8 @@ impl Model for Draft {
 impl Draft {
     // A draft with nothing in it.
     pub fn new() -> Draft
-        ensures { result ≡ nothing }
+        ensures empty { result ≡ nothing }
+        ensures sound { IsSound result }
     {
         Draft {
             contents: Contents::new(),
@@ -48,10 +49,11 @@ impl Draft {
 
     // Adds a role with its acts, given as a raw mask, and its marks. Answers the role's number.
     pub fn add_role(&mut self, acts: u64, marks: Marks) -> Result<u32, DraftRefusal>
-        ensures { Adds (role_refusal self.old acts) (λ number. (number ≡ count self.old) × (self.new ≡ with_role (record { acts = set_of acts; marks = marks }) self.old)) (self.new ≡ self.old) result }
+        ensures added { Adds (role_refusal self.old acts) (λ number. (number ≡ count self.old) × (self.new ≡ with_role (record { acts = set_of acts; marks = marks }) self.old)) (self.new ≡ self.old) result }
+        ensures sound { IsSound self.new }
     {
-        let acts: Set<Acts> = Set::try_from(acts)?;
         let number = self.contents.role_count();
+        let acts: Set<Acts> = Set::try_from(acts)?;
         let role = Role { acts, marks };
         self.contents.roles.push_or(role, DraftRefusal::TableFull)?;
         Ok(number)
@@ -59,7 +61,8 @@ impl Draft {
 
     // Adds a step from a senior role down to a junior one.
     pub fn add_step(&mut self, step: Step) -> Result<(), DraftRefusal>
-        ensures { Adds (step_refusal self.old step) (λ _. self.new ≡ with_step step self.old) (self.new ≡ self.old) result }
+        ensures added { Adds (step_refusal self.old step) (λ _. self.new ≡ with_step step self.old) (self.new ≡ self.old) result }
+        ensures sound { IsSound self.new }
     {
         let count = self.contents.role_count();
         if step.senior >= count || step.junior >= count {
@@ -73,7 +76,8 @@ impl Draft {
 
     // Adds a pair to one of the three exclusions.
     pub fn add_pair(&mut self, scope: Scope, pair: Pair) -> Result<(), DraftRefusal>
-        ensures { Adds (pair_refusal scope self.old pair) (λ _. self.new ≡ with_pair scope pair self.old) (self.new ≡ self.old) result }
+        ensures added { Adds (pair_refusal scope self.old pair) (λ _. self.new ≡ with_pair scope pair self.old) (self.new ≡ self.old) result }
+        ensures sound { IsSound self.new }
     {
         pair.check(self.places(scope))?;
         match scope {
@@ -87,7 +91,8 @@ impl Draft {
     // Adds a limit to one of the three exclusions, with its members as a raw mask.
     #[tactic(auto, using(std::proofs::Common::pow_mono))]
     pub fn add_limit(&mut self, scope: Scope, limit: Limit) -> Result<(), DraftRefusal>
-        ensures { Adds (limit_refusal scope self.old limit) (λ _. self.new ≡ with_limit scope limit self.old) (self.new ≡ self.old) result }
+        ensures added { Adds (limit_refusal scope self.old limit) (λ _. self.new ≡ with_limit scope limit self.old) (self.new ≡ self.old) result }
+        ensures sound { IsSound self.new }
     {
         // tables of pairs and of limits are of two types: one call for both would need a trait that is longer than this
         limit.check(self.places(scope))?;
@@ -101,7 +106,8 @@ impl Draft {
 
     // Adds a delegation rule for a role, with the required roles as a raw mask.
     pub fn add_rule(&mut self, role: u32, required: u64, depth: u32) -> Result<(), DraftRefusal>
-        ensures { Adds (rule_refusal self.old role required depth) (λ _. self.new ≡ with_rule (record { role = role; required = set_of required; depth = depth }) self.old) (self.new ≡ self.old) result }
+        ensures added { Adds (rule_refusal self.old role required depth) (λ _. self.new ≡ with_rule (record { role = role; required = set_of required; depth = depth }) self.old) (self.new ≡ self.old) result }
+        ensures sound { IsSound self.new }
     {
         let count = self.contents.role_count();
         if role >= count || !is_below(required, count) || depth > HIGHEST_DEPTH {

@@ -54,7 +54,8 @@ impl Draft {
 impl Sealed {
     // The policy that says nothing.
     pub fn empty() -> Sealed
-        ensures { result ≡ nothing }
+        ensures empty { result ≡ nothing }
+        ensures sound { IsSound result }
     {
         Draft::new().seal()
     }
