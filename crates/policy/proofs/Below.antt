@@ -1,5 +1,7 @@
 -- The rows of the hierarchy, joined from those of the juniors, have exactly the roles below each role.
-use Rattle.std.proofs.Common.{◌≡◌, ℕ, ◌+◌, ◌<◌, ◌&&◌, ◌||◌, eqb, ltb, List, length, get_or, sym, refl, ◌∙◌, subst, ⊎_elim, arith}
+use Rattle.std.proofs.Common.{◌≡◌, ℕ, zero, suc, ◌+◌, ◌<◌, ◌≤◌, true, ◌&&◌, ◌||◌, eqb, ltb, ◌⊎◌, List, length, get_or, sym, refl, ◌∙◌, subst, inl, inr, ⊎_elim, arith}
+use Rattle.std.proofs.Math.Bool.{Bool-set}
+use mathlib.Core.Logic.{∥∥₁_elim}
 use Rattle.policy.specs.Below.{Below, Exact, Falls, RowOf, itself, step_down}
 use Rattle.policy.specs.declared.hierarchy.Step.{Step}
 use Rattle.sets.specs.Masks.{has, Member}
@@ -10,7 +12,7 @@ use Rattle.std.specs.List.{AllWithin, HoldsAt}
 use Rattle.std.proofs.lemmas.Grind.{common_steps}
 use Rattle.std.proofs.lemmas.List.Elements.{AllWithin-more, AllWithin-none}
 use Rattle.std.proofs.lemmas.List.{get_or_default}
-use Rattle.std.proofs.lemmas.Bool.{and_parts, eq-eqb, eqb-true, lt-ltb, or_cases, or_left, or_right}
+use Rattle.std.proofs.lemmas.Bool.{and_parts, cases_eq, eq-eqb, eqb-true, lt-ltb, or_cases, or_left, or_right}
 
 -- a step from r is followed: the row has what is below the junior
 abbrev Followed : {X : Type 0} → List Step → ℕ → Set X → Step → Type 0
@@ -63,3 +65,49 @@ module _ {X : Type 0} (steps : List Step) (r : ℕ) where
 
         added : (x : ℕ) → Member (mask 32 more) x → Member (mask 32 joined) x
         added x m = members x ∙ or_right (has (mask 32 row) x) (has (mask 32 more) x) m
+
+-- ---- whether a role is below another can be decided, and so what is known to be exact is exact
+
+-- a step does not lead from r down to x
+abbrev Astray : List Step → ℕ → ℕ → Step → Type 0
+Astray steps r x step = step.senior ≡ r → Below steps step.junior x → ⊥
+
+module _ (steps : List Step) (lower : All Falls steps) where
+  -- by the first i steps, once it is decided from where each of them leads
+  scan : (r x : ℕ) → ((s : ℕ) → s < r → Below steps s x ⊎ (Below steps s x → ⊥)) → (i : ℕ) → i ≤ length steps → Below steps r x ⊎ AllWithin (Astray steps r x) steps 0 i
+  scan r x ih zero fits = inr (AllWithin-none (Astray steps r x) steps 0)
+  scan r x ih (suc i) fits = ⊎_elim inl (λ none. ⊎_elim (taken none) (λ other. more none (λ e. absurd (other e))) (cases_eq step.senior r)) (scan r x ih i (omega arith))
+    where
+      step : Step
+      step = get_or steps i (record { senior = 0; junior = 0 })
+
+      more : AllWithin (Astray steps r x) steps 0 i → Astray steps r x step → Below steps r x ⊎ AllWithin (Astray steps r x) steps 0 (suc i)
+      more none this = inr (subst (AllWithin (Astray steps r x) steps 0) (omega arith) (AllWithin-more (Astray steps r x) steps 0 i none (at_default steps i _ (omega arith) (Astray steps r x) this)))
+
+      taken : AllWithin (Astray steps r x) steps 0 i → step.senior ≡ r → Below steps r x ⊎ AllWithin (Astray steps r x) steps 0 (suc i)
+      taken none e =
+          let falls = lower i (record { senior = 0; junior = 0 }) (omega arith) in
+          ⊎_elim (λ p. inl (step_down step (listed_at steps i _ (omega arith)) e p)) (λ never. more none (λ _. never)) (ih step.junior (omega arith))
+
+  -- a way down is the role itself or begins with a listed step
+  none_left : (r x : ℕ) → (x ≡ r → ⊥) → AllWithin (Astray steps r x) steps 0 (length steps) → Below steps r x → ⊥
+  none_left r x apart none itself = apart refl
+  none_left r x apart none (step_down step listed from p) =
+      let within = listed.1 in
+      subst (Astray steps r x) listed.2 (none listed.0 step (omega arith) within) from p
+
+  pub decide : (bound r x : ℕ) → r < bound → Below steps r x ⊎ (Below steps r x → ⊥)
+  decide zero r x h = absurd (omega arith)
+  decide (suc bound) r x h =
+      ⊎_elim (λ e. inl (subst (Below steps r) (sym e) itself))
+      (λ apart. ⊎_elim inl (λ none. inr (none_left r x apart none)) (scan r x (λ s l. decide bound s x (omega arith)) (length steps) (omega arith)))
+      (cases_eq x r)
+
+  pub exact_had : {X : Type 0} (n : ℕ) (rows : List (Set X)) → ∥ Exact steps n rows ∥₁ → Exact steps n rows
+  exact_had n rows t r h d x = (only, every)
+    where
+      only : Member (mask 32 (get_or rows r d)) x → Below steps r x
+      only m = ⊎_elim (λ p. p) (λ never. absurd (∥∥₁_elim t (λ p q. absurd p) (λ e. never ((e r h d x).0 m)))) (decide (suc r) r x (omega arith))
+
+      every : Below steps r x → Member (mask 32 (get_or rows r d)) x
+      every p = ∥∥₁_elim t (Bool-set (has (mask 32 (get_or rows r d)) x) true) (λ e. (e r h d x).1 p)

@@ -1,0 +1,42 @@
+-- What a table of rows promises, in a policy's words; and that a row whose members exist in a policy is checked there as by its table.
+use Rattle.std.proofs.Common.{◌≡◌, ℕ, ◌^◌, ◌<◌, ◌≤◌, Bool, false, List, length, None, arith, pow_mono}
+use Rattle.std.specs.Prelude.{All}
+use Rattle.std.specs.List.{list_any}
+use Rattle.std.proofs.lemmas.Grind.{common_steps}
+use Rattle.std.proofs.lemmas.List.{length-take-le}
+use Rattle.std.proofs.lemmas.List.Folds.{list_any_at}
+use Rattle.policy.specs.Sound.{PairApart}
+use Rattle.sets.specs.LimitRows.{limit_fault}
+use Rattle.sets.specs.PairRows.{pair_fault}
+use Rattle.sets.specs.Rows.{is_fault, row_refusal}
+use Rattle.sets.specs.RowTables.{rows_of}
+use Rattle.sets.specs.declared.limits.Limit.{Limit}
+use Rattle.sets.specs.declared.pairs.Pair.{Pair}
+use Rattle.sets.specs.declared.row.Rows.{Rows}
+
+-- as many rows as the table counts, and no more than it has room for
+module _ {K R : Type 0} {n : ℕ} {kind entry blank default : _} (x : Rows K R n kind entry blank default) where
+  pub rows_held : length (rows_of x) ≡ x.rows.count
+  rows_held = length-take-le x.rows.count x.rows.items (omega (arith, x.rows.few, x.rows.whole))
+
+  pub rows_few : length (rows_of x) ≤ n
+  rows_few = omega (arith, rows_held, x.rows.few)
+
+-- what no row of a list is
+none_of : {R : Type 0} (test : R → Bool) (rows : List R) → list_any test rows ≡ false → All (λ row. test row ≡ false) rows
+none_of test rows e k d within = grind (arith, common_steps, list_any_at)
+
+-- with nothing wrong with any pair, no pair has equal members
+pub pairs_apart : (n : ℕ) (rows : List Pair) → list_any (λ row. is_fault (pair_fault n row)) rows ≡ false → All PairApart rows
+pairs_apart n rows e = grind (arith, common_steps, none_of)
+
+-- a limit that is not refused has a most that exists
+pub limit_low : (n room held : ℕ) (row : Limit) → row_refusal room held (limit_fault n row) ≡ None → row.most ≤ 31
+limit_low n room held row e = grind (arith, common_steps)
+
+-- what exists among some places is checked alike among more
+pub pair_checks : (n place : ℕ) (row : Pair) → row.first < place → row.second < place → place ≤ n → pair_fault place row ≡ pair_fault n row
+pair_checks n place row a b narrow = grind (arith, common_steps)
+
+pub limit_checks : (n place : ℕ) (row : Limit) → row.members < 2 ^ place → place ≤ n → limit_fault place row ≡ limit_fault n row
+limit_checks n place row a narrow = let more : 2 ^ place ≤ 2 ^ n = pow_mono narrow in grind (arith, common_steps)
