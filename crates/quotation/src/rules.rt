@@ -13,7 +13,7 @@ use sets::limits::{Limit, Limits};
 use sets::pairs::{Pair, Pairs};
 use sets::refusal::RowRefusal;
 use sets::set::Set;
-use std::fmt;
+use thiserror::Error;
 
 // Nobody both prices and checks one quotation, and nobody takes more than two of price, check and release.
 #[derive(Drop)]
@@ -24,10 +24,13 @@ pub struct StudioRules {
 }
 
 // Why the rules forbid the acts that one person would have done.
-#[derive(Clone, Copy, PartialEq, Eq, Debug)]
+#[derive(Clone, Copy, PartialEq, Eq, Debug, Error)]
 pub enum Forbidden {
+    #[error("forbidden: nobody both prices and checks one quotation")]
     PriceAndCheck,
+    #[error("forbidden: nobody takes more than two of price, check and release")]
     MoreThanTwo,
+    #[error("forbidden: nobody both prices and checks one quotation, and nobody takes more than two of price, check and release")]
     BothRules,
 }
 
@@ -73,17 +76,5 @@ impl StudioRules {
             return Err(Forbidden::PriceAndCheck);
         }
         Err(Forbidden::BothRules)
-    }
-}
-
-impl fmt::Display for Forbidden {
-    fn fmt<W: fmt::Write>(&self, f: &mut fmt::Formatter<W>) -> fmt::Result {
-        f.write_str(match self {
-            Forbidden::PriceAndCheck => "forbidden: nobody both prices and checks one quotation",
-            Forbidden::MoreThanTwo =>
-                "forbidden: nobody takes more than two of price, check and release",
-            Forbidden::BothRules =>
-                "forbidden: nobody both prices and checks one quotation, and nobody takes more than two of price, check and release",
-        })
     }
 }
