@@ -73,7 +73,7 @@ abbrev Astray : List Step → ℕ → ℕ → Step → Type 0
 Astray steps r x step = step.senior ≡ r → Below steps step.junior x → ⊥
 
 module _ (steps : List Step) (lower : All Falls steps) where
-  -- by the first i steps, once it is decided from where each of them leads
+  -- whether x is below r by one of the first i steps, where that is decided for all roles lower than r
   scan : (r x : ℕ) → ((s : ℕ) → s < r → Below steps s x ⊎ (Below steps s x → ⊥)) → (i : ℕ) → i ≤ length steps → Below steps r x ⊎ AllWithin (Astray steps r x) steps 0 i
   scan r x ih zero fits = inr (AllWithin-none (Astray steps r x) steps 0)
   scan r x ih (suc i) fits = ⊎_elim inl (λ none. ⊎_elim (taken none) (λ other. more none (λ e. absurd (other e))) (cases_eq step.senior r)) (scan r x ih i (omega arith))
@@ -96,6 +96,7 @@ module _ (steps : List Step) (lower : All Falls steps) where
       let within = listed.1 in
       subst (Astray steps r x) listed.2 (none listed.0 step (omega arith) within) from p
 
+  -- being below is decided, for any two roles
   pub decide : (bound r x : ℕ) → r < bound → Below steps r x ⊎ (Below steps r x → ⊥)
   decide zero r x h = absurd (omega arith)
   decide (suc bound) r x h =
@@ -103,6 +104,7 @@ module _ (steps : List Step) (lower : All Falls steps) where
       (λ apart. ⊎_elim inl (λ none. inr (none_left r x apart none)) (scan r x (λ s l. decide bound s x (omega arith)) (length steps) (omega arith)))
       (cases_eq x r)
 
+  -- a table of which no more is known than that some proof says it is exact, is exact
   pub exact_had : {X : Type 0} (n : ℕ) (rows : List (Set X)) → ∥ Exact steps n rows ∥₁ → Exact steps n rows
   exact_had n rows t r h d x = (only, every)
     where

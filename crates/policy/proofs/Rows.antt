@@ -22,7 +22,7 @@ module _ {K R : Type 0} {n : ℕ} {kind entry blank default : _} (x : Rows K R n
   pub rows_few : length (rows_of x) ≤ n
   rows_few = omega (arith, rows_held, x.rows.few)
 
--- what no row of a list is
+-- where no row passes a test, each row fails it
 none_of : {R : Type 0} (test : R → Bool) (rows : List R) → list_any test rows ≡ false → All (λ row. test row ≡ false) rows
 none_of test rows e k d within = grind (arith, common_steps, list_any_at)
 

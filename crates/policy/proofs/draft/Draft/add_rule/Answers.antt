@@ -8,8 +8,8 @@ use Rattle.policy.proofs.draft.Draft.add_rule.Goals.{After-push_or}
 use Rattle.sets.specs.Tables.{items_of}
 
 -- with the rules as the table leaves them the policy is sound
-left : (c : After-push_or) → IsSound (record (policy c.self.inside.contents) { rules = items_of c.push_or.new.self })
-left c =
+sound_after : (c : After-push_or) → IsSound (record (policy c.self.inside.contents) { rules = items_of c.push_or.new.self })
+sound_after c =
     let p = policy c.self.inside.contents in
     let n = c.role_count-count.ensures.number in
     let role = c.if-role-count.false in
@@ -20,7 +20,7 @@ left c =
     (λ e kept. ap items_of kept.2) c.self.invariant (λ room. sound room c.self.invariant)
 
 pub invariant_of-self : goal.invariant_of-self
-invariant_of-self c = left c
+invariant_of-self c = sound_after c
 
 pub returns-clause-sound : goal.returns-clause-sound
-returns-clause-sound c = let sound = left c in search rules
+returns-clause-sound c = let sound = sound_after c in search rules
