@@ -1,8 +1,8 @@
 -- What the operations on masks do to each member, for the contracts of sets and exclusions.
 use Rattle.std.specs.Prelude.{◌≡◌, ℕ, zero, suc, ◌+◌, ◌-◌, ◌/◌, ◌%◌, ◌^◌, ◌<◌, ◌≤◌, Bool, true, false, cond, not, ◌&&◌, ◌||◌, eqb, ◌==◌, ◌≢◌, bit_and, bit_or, bit_xor, nat_lt, refl}
-use Rattle.std.proofs.Common.{⊎_elim, sym, ap, ◌∙◌, arith, shr-shr, pow-suc, pow_pos, mod-lt}
-use Rattle.std.specs.Int.Count.{ones, ones_step}
-use Rattle.sets.specs.Masks.{has, minus, one, tally}
+use Rattle.std.proofs.Common.{⊎_elim, sym, ap, ◌∙◌, not-suc-le-zero, arith, shr-shr, pow-suc, pow_pos, mod-lt}
+use Rattle.std.specs.Int.Count.{count_trailing_zeros, ones, ones_step, under}
+use Rattle.sets.specs.Masks.{has, Member, minus, one, tally}
 use Rattle.sets.specs.MasksLemmas.{has_and, has_half, has_low, has_zero}
 use Rattle.std.proofs.Math.Pow.{field}
 use Rattle.std.proofs.lemmas.Nat.{mod-pow-add}
@@ -61,6 +61,19 @@ has_pow p k = ⊎_elim same other (cases_eq k p)
 pub has_one : (n p k : ℕ) → has (one n p) k ≡ (nat_lt p n && k == p)
 has_one n p k = elim (nat_lt p n) as (λ b. has (cond b (2 ^ p) 0) k ≡ (b && k == p)) [ true ↦ has_pow p k | false ↦ has_zero k ]
 
+-- the complement of a mask of w bits has the members that the mask lacks
+pub has_not : (w t k : ℕ) → t < 2 ^ w → k < w → has (2 ^ w - 1 - t) k ≡ not (has t k)
+has_not zero t k l h = absurd (not-suc-le-zero h)
+has_not (suc w) t zero l h =
+    let p = pow-suc 2 w in
+    let q : (2 ^ suc w - 1 - t) % 2 ≡ 1 - t % 2 = omega arith in
+    let r : t % 2 < 2 = omega arith in
+    rw (has_low (2 ^ suc w - 1 - t), has_low t, q) (grind (arith, nat_tests))
+has_not (suc w) t (suc k) l h =
+    let p = pow-suc 2 w in
+    let q : (2 ^ suc w - 1 - t) / 2 ≡ 2 ^ w - 1 - t / 2 = omega arith in
+    sym (has_half (2 ^ suc w - 1 - t) k) ∙ ap (λ x. has x k) q ∙ has_not w (t / 2) k (omega arith) (omega arith) ∙ ap not (has_half t k)
+
 has_xor : (a b k : ℕ) → has (bit_xor a b) k ≡ cond (has a k) (not (has b k)) (has b k)
 unfolding has
 has_xor a b k =
@@ -88,9 +101,12 @@ tally_low : (n : ℕ) (picked : ℕ → Bool) → tally (suc n) picked ≡ cond 
 tally_low zero picked = refl
 tally_low (suc n) picked = let i = tally_low n picked in omega arith
 
-tally_same : (n : ℕ) (f g : ℕ → Bool) → ((k : ℕ) → f k ≡ g k) → tally n f ≡ tally n g
+tally_same : (n : ℕ) (f g : ℕ → Bool) → ((k : ℕ) → k < n → f k ≡ g k) → tally n f ≡ tally n g
 tally_same zero f g h = refl
-tally_same (suc n) f g h = rw (h n, tally_same n f g h) refl
+tally_same (suc n) f g h =
+    let e = h n (omega arith) in
+    let i = tally_same n f g (λ k l. h k (omega arith)) in
+    rw (e, i) refl
 
 -- the ones of a mask are its members, counted
 pub ones_tally : (n s : ℕ) → s < 2 ^ n → ones s ≡ tally n (has s)
@@ -99,6 +115,29 @@ ones_tally zero s h = let e : s ≡ 0 = omega arith in rw e refl
 ones_tally (suc n) s h =
     let p = pow-suc 2 n in
     let i = ones_tally n (s / 2) (omega arith) in
-    let t = tally_same n (has (s / 2)) (λ k. has s (suc k)) (has_half s) in
+    let t = tally_same n (has (s / 2)) (λ k. has s (suc k)) (λ k _. has_half s k) in
     let b : cond (has s 0) 1 0 ≡ s % 2 = ap (λ x. cond x 1 0) (has_low s) ∙ grind (arith, nat_tests) in
     omega (arith, ones_step s, tally_low n (has s))
+
+-- ---- the lowest member
+
+-- no member stands below the trailing zeros
+pub trailing_none : (w n j : ℕ) → j < count_trailing_zeros w n → has n j ≡ false
+unfolding count_trailing_zeros
+trailing_none zero n j h = absurd (not-suc-le-zero h)
+trailing_none (suc w) n j h = go (trailing_none w (n / 2)) (n % 2) refl j h
+  where
+    go : ((j : ℕ) → j < count_trailing_zeros w (n / 2) → has (n / 2) j ≡ false) → (d : ℕ) → n % 2 ≡ d → (j : ℕ) → j < under d (count_trailing_zeros w (n / 2)) → has n j ≡ false
+    go ih zero e zero h = has_low n ∙ ap (λ x. eqb x 1) e
+    go ih zero e (suc j) h = sym (has_half n j) ∙ ih j (omega arith)
+    go ih (suc d) e j h = absurd (not-suc-le-zero h)
+
+-- and the place right above them is one
+pub trailing_member : (w n : ℕ) → count_trailing_zeros w n < w → Member n (count_trailing_zeros w n)
+unfolding count_trailing_zeros
+trailing_member zero n h = absurd (not-suc-le-zero h)
+trailing_member (suc w) n h = go (trailing_member w (n / 2)) (n % 2) refl (mod-lt n (omega arith)) h
+  where
+    go : (count_trailing_zeros w (n / 2) < w → Member (n / 2) (count_trailing_zeros w (n / 2))) → (d : ℕ) → n % 2 ≡ d → d < 2 → under d (count_trailing_zeros w (n / 2)) < suc w → Member n (under d (count_trailing_zeros w (n / 2)))
+    go ih zero e l h = sym (has_half n (count_trailing_zeros w (n / 2))) ∙ ih (omega arith)
+    go ih (suc d) e l h = has_low n ∙ eq-eqb (n % 2) 1 (omega arith)

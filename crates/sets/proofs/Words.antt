@@ -2,16 +2,13 @@
 use Rattle.std.proofs.Common.{◌≡◌, ℕ, ◌+◌, ◌-◌, ◌*◌, ◌/◌, ◌%◌, ◌^◌, ◌<◌, ◌≤◌, min, Bool, true, false, not, ◌&&◌, eqb, ltb, Decides, sym, refl, ap, ◌∙◌, ⊎_elim, mod-eq_of_lt, arith, pow-add, pow_mono, pow_pos, subst, ◌*◌}
 use Rattle.std.proofs.Math.Nat.{div-eq_of_lt, lt-div-mul-add, mul-mod_left, zero-mod}
 use Rattle.std.specs.Prelude.{◌≢◌, bit_and}
-use Rattle.std.specs.Int.{w64}
-use Rattle.std.specs.Int.Count.{count_trailing_zeros, trailing_of_zero}
+use Rattle.std.specs.Int.Count.{count_trailing_zeros}
 use Rattle.std.proofs.Math.Pow.{pow-lt}
 use Rattle.sets.specs.Masks.{Inside, Next, has, minus, one}
 use Rattle.sets.specs.MasksLemmas.{has_and, has_zero}
-use Rattle.sets.proofs.Masks.{has_minus, has_mod, has_one, has_past, has_shr, same_mask}
+use Rattle.sets.proofs.Masks.{has_minus, has_mod, has_not, has_one, has_past, has_shr, same_mask, trailing_member, trailing_none}
 use Rattle.std.proofs.lemmas.Nat.{and_mask, one_shl}
-use Rattle.std.proofs.lemmas.Nat.Bits.{bit_at_not, bit_at-lt, bit_at-trailing_zeros}
-use Rattle.std.proofs.lemmas.Bool.Decides.{nat_tests}
-use Rattle.std.proofs.lemmas.Bool.{and_parts, cases_eq, cases_lt, eq-eqb, eqb-true, false≢true, le-ltb, lt-ltb}
+use Rattle.std.proofs.lemmas.Bool.{and_parts, cases_lt, eq-eqb, eqb-true, false≢true, le-ltb, lt-ltb}
 
 -- ---- places, one by one
 
@@ -45,7 +42,7 @@ pub none_members : (n k : ℕ) → has (0 % 2 ^ n) k ≡ false
 none_members n k = ap (λ x. has x k) (zero-mod (2 ^ n)) ∙ has_zero k
 
 -- a place that is cut off leaves nothing
-one_cut : (n p : ℕ) → 2 ^ p % 2 ^ n ≡ one n p
+pub one_cut : (n p : ℕ) → 2 ^ p % 2 ^ n ≡ one n p
 one_cut n p = ⊎_elim below above (cases_lt p n)
   where
     below : p < n → 2 ^ p % 2 ^ n ≡ one n p
@@ -70,17 +67,9 @@ one_members n p r e k = ap (λ x. has x k) e ∙ has_one n p k
 -- ---- two words
 
 module _ (a b : ℕ) (a_fits : a < 2 ^ 64) (b_fits : b < 2 ^ 64) where
-  -- a place of the complement is none of b
-  complement : (k : ℕ) → k < 64 → has (2 ^ 64 - 1 - b) k ≡ not (has b k)
-  unfolding has
-  complement k h =
-      let x = bit_at-lt b k in
-      let e = bit_at_not w64 b k b_fits h in
-      rw e (grind (arith, nat_tests))
-
-  -- and a has none past the word
+  -- no place of the complement is one of b, and a has none past the word
   lacking : (k : ℕ) → (has a k && has (2 ^ 64 - 1 - b) k) ≡ (has a k && not (has b k))
-  lacking k = ⊎_elim (λ h. rw (complement k h) refl) (λ h. rw (has_past a 64 k a_fits h) refl) (cases_lt k 64)
+  lacking k = ⊎_elim (λ h. rw (has_not 64 b k b_fits h) refl) (λ h. rw (has_past a 64 k a_fits h) refl) (cases_lt k 64)
 
   pub except_members : (n k : ℕ) → has (bit_and a (2 ^ 64 - 1 - b) % 2 ^ n) k ≡ (has (a % 2 ^ n) k && not (has (b % 2 ^ n) k))
   except_members n k =
@@ -114,30 +103,16 @@ has_in : (s n k : ℕ) → k < n → has (s % 2 ^ n) k ≡ has s k
 has_in s n k h = has_mod s n k ∙ ap (λ t. t && has s k) (lt-ltb k n h)
 
 -- the least place not below p, found by counting the zeros above it
-pub next_found : (n s p r : ℕ) → n ≤ 64 → s < 2 ^ 64 → p < n → r ≡ min (p + count_trailing_zeros 64 (s / 2 ^ p)) n → Next n (s % 2 ^ n) p r
-unfolding has
-next_found n s p r narrow fits h e = ⊎_elim none some (cases_eq (s / 2 ^ p) 0)
-  where
-    above : (k : ℕ) → p ≤ k → has (s / 2 ^ p) (k - p) ≡ has s k
-    above k l = has_shr s p (k - p) ∙ (let at : p + (k - p) ≡ k = omega arith in ap (has s) at)
-
-    none : s / 2 ^ p ≡ 0 → Next n (s % 2 ^ n) p r
-    none z =
-        let t : count_trailing_zeros 64 (s / 2 ^ p) ≡ 64 = ap (count_trailing_zeros 64) z ∙ trailing_of_zero 64 in
-        record {
-          within = omega arith;
-          member = λ l. absurd (omega arith);
-          not_below = λ l. absurd (omega arith);
-          least = λ k l u m. false≢true (sym (has_zero (k - p)) ∙ ap (λ x. has x (k - p)) (sym z) ∙ above k l ∙ sym (has_in s n k (omega arith)) ∙ m);
-        }
-
-    some : (s / 2 ^ p ≢ 0) → Next n (s % 2 ^ n) p r
-    some z =
-        let f = bit_at-trailing_zeros w64 (s / 2 ^ p) (omega arith) (omega arith) in
-        let c : ℕ = count_trailing_zeros 64 (s / 2 ^ p) in
-        record {
-          within = omega arith;
-          member = λ l. let at : p + c ≡ r = omega arith in has_in s n r l ∙ ap (has s) (sym at) ∙ sym (has_shr s p c) ∙ ap (λ x. eqb x 1) f.1;
-          not_below = λ l. omega arith;
-          least = λ k l u m. false≢true (sym (ap (λ x. eqb x 1) (f.2 (k - p) (omega arith))) ∙ above k l ∙ sym (has_in s n k (omega arith)) ∙ m);
-        }
+pub next_found : (n s p r : ℕ) → n ≤ 64 → p < n → r ≡ min (p + count_trailing_zeros 64 (s / 2 ^ p)) n → Next n (s % 2 ^ n) p r
+next_found n s p r narrow h e =
+    let z = count_trailing_zeros 64 (s / 2 ^ p) in
+    record {
+      within = omega arith;
+      member = λ l.
+          let at : p + z ≡ r = omega arith in
+          has_in s n r l ∙ ap (has s) (sym at) ∙ sym (has_shr s p z) ∙ trailing_member 64 (s / 2 ^ p) (omega arith);
+      not_below = λ l. omega arith;
+      least = λ k l u m.
+          let at : p + (k - p) ≡ k = omega arith in
+          absurd (false≢true (sym (trailing_none 64 (s / 2 ^ p) (k - p) (omega arith)) ∙ has_shr s p (k - p) ∙ ap (has s) at ∙ sym (has_in s n k (omega arith)) ∙ m));
+    }
