@@ -3,7 +3,8 @@ ghost use Rattle.std.specs.Prelude.{◌≡◌, true, false, Ok};
 
 use crate::exclusion::Exclusion;
 use crate::kind::Roles;
-use crate::limits::{Limit, Limits};
+use crate::limits::{Limit, Limits, MOST_LIMITS};
+use crate::pairs::MOST_PAIRS;
 use crate::refusal::RowRefusal;
 use crate::set::Set;
 
@@ -19,4 +20,11 @@ pub fn at_most_two_of_three() -> Result<(bool, bool), RowRefusal>
     let two = Set::try_from(0b1011)?;
     let three = Set::try_from(0b0111)?;
     Ok((limits.allows(two), limits.allows(three)))
+}
+
+// How many pairs and how many limits one exclusion can hold.
+pub fn rooms() -> (usize, usize)
+    ensures { result ≡ (128, 16) }
+{
+    (MOST_PAIRS, MOST_LIMITS)
 }
