@@ -1,5 +1,5 @@
 // Worked cases, each proved by computing it: the check fails where a case does not come out.
-ghost use Rattle.std.specs.Prelude.{◌≡◌, Ok, MatchResult};
+ghost use Rattle.std.specs.Prelude.{◌≡◌, ◌≤◌, length, Ok, MatchResult};
 
 use crate::draft::Draft;
 use crate::hierarchy::Step;
@@ -48,4 +48,12 @@ pub fn cloned(policy: &Sealed) -> Result<Sealed, AllocError>
     ensures { MatchResult result (λ clone. clone ≡ policy.now) (λ _. ⊥) }
 {
     policy.clone()
+}
+
+// A reading tells that the policy is sound: whoever lists the roles knows that there are at most 32, and asks nothing else.
+pub fn listed(policy: &Sealed) -> usize
+    ensures number { result ≡ length policy.now.roles }
+    ensures few { result ≤ 32 }
+{
+    policy.roles().len()
 }

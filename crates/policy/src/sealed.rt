@@ -71,27 +71,31 @@ impl Sealed {
 
     // The roles, in the order of their numbers.
     pub fn roles(&self) -> &[Role]
-        ensures { result.now ≡ self.now.roles }
+        ensures items { result.now ≡ self.now.roles }
+        ensures sound { IsSound self.now }
     {
         self.contents.roles.as_slice()
     }
 
     // What a role may do by itself: nothing, if it is not in the policy.
     pub fn acts(&self, role: u32) -> Set<Acts>
-        ensures { result ≡ (role_at self.now role).acts }
+        ensures answer { result ≡ (role_at self.now role).acts }
+        ensures sound { IsSound self.now }
     {
         self.role(role).acts
     }
 
     // The marks of a role: none, if it is not in the policy.
     pub fn marks(&self, role: u32) -> Marks
-        ensures { result ≡ (role_at self.now role).marks }
+        ensures answer { result ≡ (role_at self.now role).marks }
+        ensures sound { IsSound self.now }
     {
         self.role(role).marks
     }
 
     fn role(&self, number: u32) -> Role
-        ensures { result ≡ role_at self.now number }
+        ensures answer { result ≡ role_at self.now number }
+        ensures sound { IsSound self.now }
     {
         self.roles()
             .get(number as usize)
@@ -101,7 +105,8 @@ impl Sealed {
 
     // The roles below a role, itself among them: none, if it is not in the policy.
     pub fn below(&self, role: u32) -> Set<Roles>
-        ensures { (x : ℕ) → IsTrue (has (mask 32 result) x) ↔ BelowIn self.now role x }
+        ensures members { (x : ℕ) → IsTrue (has (mask 32 result) x) ↔ BelowIn self.now role x }
+        ensures sound { IsSound self.now }
     {
         if role >= self.role_count() {
             return Set::empty();
@@ -111,7 +116,8 @@ impl Sealed {
 
     // Whether a role is below another. A number that is no role has nothing below it, and is below none.
     pub fn is_below(&self, role: u32, senior: u32) -> bool
-        ensures { IsTrue result ↔ BelowIn self.now senior role }
+        ensures answer { IsTrue result ↔ BelowIn self.now senior role }
+        ensures sound { IsSound self.now }
     {
         self.below(senior).has(role)
     }
@@ -125,28 +131,32 @@ impl Sealed {
 
     // The steps, in the order in which they were added.
     pub fn steps(&self) -> &[Step]
-        ensures { result.now ≡ self.now.steps }
+        ensures items { result.now ≡ self.now.steps }
+        ensures sound { IsSound self.now }
     {
         self.contents.steps.as_slice()
     }
 
     // The delegation rules, in the order in which they were added.
     pub fn rules(&self) -> &[Rule]
-        ensures { result.now ≡ self.now.rules }
+        ensures items { result.now ≡ self.now.rules }
+        ensures sound { IsSound self.now }
     {
         self.contents.rules.as_slice()
     }
 
     // The pairs of an exclusion, in the order in which they were added.
     pub fn pairs(&self, scope: Scope) -> &[Pair]
-        ensures { result.now ≡ (rows_in scope self.now).pairs }
+        ensures items { result.now ≡ (rows_in scope self.now).pairs }
+        ensures sound { IsSound self.now }
     {
         self.rows(scope).0
     }
 
     // The limits of an exclusion, in the order in which they were added.
     pub fn limits(&self, scope: Scope) -> &[Limit]
-        ensures { result.now ≡ (rows_in scope self.now).limits }
+        ensures items { result.now ≡ (rows_in scope self.now).limits }
+        ensures sound { IsSound self.now }
     {
         self.rows(scope).1
     }
@@ -154,6 +164,7 @@ impl Sealed {
     fn rows(&self, scope: Scope) -> (&[Pair], &[Limit])
         ensures pairs { result.0.now ≡ (rows_in scope self.now).pairs }
         ensures limits { result.1.now ≡ (rows_in scope self.now).limits }
+        ensures sound { IsSound self.now }
     {
         match scope {
             Scope::Standing => both_rows(&self.contents.standing),
@@ -164,28 +175,32 @@ impl Sealed {
 
     // The standing exclusion, ready for a monitor.
     pub fn standing(&self) -> PairsAndLimits<Roles>
-        ensures { rows result ≡ self.now.standing }
+        ensures answer { rows result ≡ self.now.standing }
+        ensures sound { IsSound self.now }
     {
         self.contents.standing
     }
 
     // The session exclusion, ready for a monitor.
     pub fn session(&self) -> PairsAndLimits<Roles>
-        ensures { rows result ≡ self.now.session }
+        ensures answer { rows result ≡ self.now.session }
+        ensures sound { IsSound self.now }
     {
         self.contents.session
     }
 
     // The history exclusion, ready for a monitor.
     pub fn history(&self) -> PairsAndLimits<Acts>
-        ensures { rows result ≡ self.now.history }
+        ensures answer { rows result ≡ self.now.history }
+        ensures sound { IsSound self.now }
     {
         self.contents.history
     }
 
     // Whether some rule lets the link be added.
     pub fn rule_fits(&self, link: Link) -> bool
-        ensures { IsTrue result ↔ SomeRuleFits self.now link }
+        ensures answer { IsTrue result ↔ SomeRuleFits self.now link }
+        ensures sound { IsSound self.now }
     {
         self.contents
             .rules

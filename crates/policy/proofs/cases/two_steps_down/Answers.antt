@@ -10,6 +10,6 @@ returns c =
     let told = c.seal-policy.ensures.same ∙ c.in_ok-add_step-2.ensures.added.1 ∙ ap (with_step _) (c.in_ok-add_step.ensures.added.1 ∙ ap (with_step _) roles) in
     let steps : sealed.steps ≡ two_steps = ap (λ (p : Policy). p.steps) told in
     let three : count sealed ≡ 3 = ap count told in
-    let two = c.mask.ensures.value ∙ below_two sealed steps three _ c.below.ensures in
-    let zero = c.mask-2.ensures.value ∙ below_zero sealed steps three _ c.below-2.ensures in
+    let two = c.mask.ensures.value ∙ below_two sealed steps three _ c.below.ensures.members in
+    let zero = c.mask-2.ensures.value ∙ below_zero sealed steps three _ c.below-2.ensures.members in
     cc

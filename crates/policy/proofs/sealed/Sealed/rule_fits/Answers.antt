@@ -13,8 +13,8 @@ found : (P : Rule → Type 0) (rules : List Rule) (r : Bool) → MatchBool r (So
 found P rules true some = (λ _. some, λ _. refl)
 found P rules false none = (λ e. absurd (false≢true e), λ some. absurd (none_from_all_within P rules none some))
 
-pub returns : goal.returns
-returns c =
+pub returns-clause-answer : goal.returns-clause-answer
+returns-clause-answer c =
     let P : Rule → Type 0 = Fits c.args.self.now c.args.link in
     let same : c.as_slice.result.now ≡ c.args.self.now.rules = c.as_slice.ensures.items ∙ ap (λ (p : Policy). p.rules) c.self.view_is in
     let told = cases_from_any _ _ _ P (λ rule. P rule → ⊥) c.any.ensures.ran (YieldsList-from_slice c.as_slice.result.now cc) (λ x q k. search (rules, tests)) (λ x q k. search (rules, tests)) in
