@@ -1,5 +1,5 @@
 -- What a policy says, as lists in the order in which their items were added, and what it says with one item more. Assumes nothing.
-use Rattle.std.specs.Prelude.{ℕ, ◌<◌, List, [], ◌∷◌, ◌++◌, length, slice_index_or}
+use Rattle.std.specs.Prelude.{◌≡◌, ℕ, ◌<◌, List, [], ◌∷◌, ◌++◌, length, slice_index_or}
 use Rattle.policy.specs.Below.{Below}
 use Rattle.policy.specs.Roles.{no_role}
 use Rattle.policy.specs.declared.contents.Contents.{Contents}
@@ -42,6 +42,10 @@ policy c = record {
   history = rows c.history;
   rules = items_of c.rules;
 }
+
+-- contents are no more than what they say: no others say the same
+abbrev pub SayAll : Contents → Type 0
+SayAll c = (other : Contents) → policy other ≡ policy c → other ≡ c
 
 -- a policy that says nothing
 abbrev pub no_rows : Rows

@@ -1,6 +1,6 @@
 // What a policy is made of, in drafts and in sealed policies alike. It promises nothing by itself: the types around it do.
 ghost use Rattle.std.specs.Prelude.{◌≡◌, ◌≤◌};
-ghost use Rattle.policy.specs.Policies.{count, no_rows, nothing, policy, rows};
+ghost use Rattle.policy.specs.Policies.{SayAll, count, no_rows, nothing, policy, rows};
 
 use crate::hierarchy::{MOST_STEPS, Step};
 use crate::role::{MOST_ROLES, Role};
@@ -35,9 +35,12 @@ impl Contents {
         }
     }
 
+    // How many roles there are. Whoever asks also learns that contents that say the same are the same value.
+    #[tactic(auto, using(crate::proofs::Told::same_contents))]
     pub(crate) fn role_count(&self) -> u32
         ensures number { result ≡ count (policy self.now) }
         ensures few { result ≤ 32 }
+        ensures whole { SayAll self.now }
     {
         self.roles.as_slice().len() as u32
     }
