@@ -25,10 +25,10 @@ pub record Sofar {X : Type 0} (steps : List Step) (r i : ℕ) (row : Set X) : Ty
   pub each : AllWithin (Followed steps r row) steps 0 i
 
 module _ {X : Type 0} where
-  at_default : (xs : List X) (i : ℕ) (d : X) → i < length xs → (P : X → Type 0) → P (get_or xs i d) → HoldsAt P xs i
+  pub at_default : (xs : List X) (i : ℕ) (d : X) → i < length xs → (P : X → Type 0) → P (get_or xs i d) → HoldsAt P xs i
   at_default xs i d within P p e = subst P (get_or_default xs i d e within) p
 
-  listed_at : (xs : List X) (i : ℕ) (d : X) → i < length xs → Contains xs (get_or xs i d)
+  pub listed_at : (xs : List X) (i : ℕ) (d : X) → i < length xs → Contains xs (get_or xs i d)
   listed_at xs i d within = (i, within, sym (get_or_default xs i d (get_or xs i d) within))
 
 module _ {X : Type 0} (steps : List Step) (r : ℕ) where

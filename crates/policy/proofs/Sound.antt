@@ -1,11 +1,12 @@
 -- A sound policy stays sound when an item that passes its checks is added.
 use Rattle.std.proofs.Common.{sym, subst, ◌≡◌, ℕ, ◌^◌, ◌<◌, ◌≤◌, List, [], ◌∷◌, ◌++◌, length, None, Ok, Err, Option, Result, MatchResult, arith, rules, pow_mono}
+use Rattle.std.specs.Prelude.{All}
 use Rattle.std.proofs.lemmas.Grind.{common_steps}
 use Rattle.std.proofs.lemmas.List.Elements.{All-push, All-weaker}
 use Rattle.std.proofs.lemmas.List.{length_push}
 use Rattle.policy.specs.Below.{Falls}
-use Rattle.policy.specs.Policies.{Policy, count, places, rows_in, with_role, with_rows, with_rule, with_step}
-use Rattle.policy.specs.Sound.{IsSound, RoleActs, RuleRoles, StepEnds}
+use Rattle.policy.specs.Policies.{Policy, Rows, count, places, rows_in, with_role, with_rows, with_rule, with_step}
+use Rattle.policy.specs.Sound.{ApartIn, FewIn, IsSound, LimitMembers, PairMembers, RoleActs, RuleRoles, StepEnds}
 use Rattle.policy.specs.declared.hierarchy.Step.{Step}
 use Rattle.policy.specs.declared.role.Role.{Role}
 use Rattle.policy.specs.declared.rule.Rule.{Rule}
@@ -35,6 +36,12 @@ sound_step p x falls ends room s = grind (arith, common_steps)
 
 pub sound_rule : (p : Policy) (x : Rule) → RuleRoles (count p) x → length p.rules < 64 → IsSound p → IsSound (with_rule x p)
 sound_rule p x exist room s = grind (arith, common_steps)
+
+-- with other rows of one exclusion, if there are few enough, their members exist and no pair is of equals
+pub sound_rows : (scope : Scope) (p : Policy) (xs : Rows) → FewIn xs → All (PairMembers (places scope p)) xs.pairs × All (LimitMembers (places scope p)) xs.limits → ApartIn xs → IsSound p → IsSound (with_rows scope xs p)
+sound_rows Standing p xs few exist apart s = grind (arith, common_steps)
+sound_rows Session p xs few exist apart s = grind (arith, common_steps)
+sound_rows History p xs few exist apart s = grind (arith, common_steps)
 
 module _ {p seen : Policy} {n : ℕ} (view : p ≡ seen) where
   pub sound_pair : (scope : Scope) {at : Scope} (x : Pair) (fault : Option RowRefusal) {rows : List Pair} → at ≡ scope → n ≡ places at seen → pair_fault n x ≡ None
