@@ -9,9 +9,6 @@ use Rattle.std.proofs.lemmas.List.{length-take-le, take-append-drop}
 use Rattle.std.specs.declared.default.Default.{Ghosts as Defaults}
 use Rattle.policy.specs.Policies.{Policy, Rows, policy, rows}
 use Rattle.policy.specs.declared.contents.Contents.{Contents}
-use Rattle.policy.specs.declared.hierarchy.Step.{Step}
-use Rattle.policy.specs.declared.role.Role.{Role}
-use Rattle.policy.specs.declared.rule.Rule.{Rule}
 use Rattle.sets.specs.Tables.{items_of}
 use Rattle.sets.specs.declared.both.Both.{Both}
 use Rattle.sets.specs.declared.limits.Limit.{Limit}
@@ -32,47 +29,32 @@ module _ {X : Type 0} {n : ℕ} {blank : Blanks X} {default : Defaults X} (alike
   rest : drop a.count a.items ≡ drop b.count b.items
   rest = ∥∥₁_elim a.clean (alike _ _) (λ p. ∥∥₁_elim b.clean (alike _ _) (λ q. p ∙ ap (λ k. replicate (n - k) blank.blank) counts ∙ sym q))
 
-  whole : a.items ≡ b.items
-  whole = sym (take-append-drop a.count a.items) ∙ ap (λ xs. xs ++ drop a.count a.items) same ∙ ap (λ xs. items_of b ++ xs) rest ∙ take-append-drop b.count b.items
+  placed : a.items ≡ b.items
+  placed = sym (take-append-drop a.count a.items) ∙ ap (λ xs. xs ++ drop a.count a.items) same ∙ ap (λ xs. items_of b ++ xs) rest ∙ take-append-drop b.count b.items
 
   pub same_table : a ≡ b
   same_table = λ i. record {
-    items = whole i;
+    items = placed i;
     count = counts i;
     few = is_prop→PathP (λ j. counts j ≤ n) (λ j. le_prop) a.few b.few i;
-    whole = is_prop→PathP (λ j. length (whole j) ≡ n) (λ j. Coded-set coded_ℕ _ _) a.whole b.whole i;
-    clean = is_prop→PathP (λ j. ∥ drop (counts j) (whole j) ≡ replicate (n - counts j) blank.blank ∥₁) (λ j. ∥∥₁_prop) a.clean b.clean i;
+    whole = is_prop→PathP (λ j. length (placed j) ≡ n) (λ j. Coded-set coded_ℕ _ _) a.whole b.whole i;
+    clean = is_prop→PathP (λ j. ∥ drop (counts j) (placed j) ≡ replicate (n - counts j) blank.blank ∥₁) (λ j. ∥∥₁_prop) a.clean b.clean i;
   }
-
-roles_alike : (xs ys : List Role) → IsProp (xs ≡ ys)
-roles_alike xs ys = hlevel props
-
-steps_alike : (xs ys : List Step) → IsProp (xs ≡ ys)
-steps_alike xs ys = hlevel props
-
-rules_alike : (xs ys : List Rule) → IsProp (xs ≡ ys)
-rules_alike xs ys = hlevel props
-
-pairs_alike : (xs ys : List Pair) → IsProp (xs ≡ ys)
-pairs_alike xs ys = hlevel props
-
-limits_alike : (xs ys : List Limit) → IsProp (xs ≡ ys)
-limits_alike xs ys = hlevel props
 
 module _ {K : Type 0} {m n : ℕ} {kind pair limit blank_pair blank_limit no_pair no_limit : _} where
   same_both : (a b : Both (RowTable K Pair m kind pair blank_pair no_pair) (RowTable K Limit n kind limit blank_limit no_limit)) → rows a ≡ rows b → a ≡ b
   same_both a b e =
-      let left : a.left ≡ b.left = same_rows {a = a.left} {b = b.left} (same_table pairs_alike a.left.rows b.left.rows (ap (λ (r : Rows). r.pairs) e)) in
-      let right : a.right ≡ b.right = same_rows {a = a.right} {b = b.right} (same_table limits_alike a.right.rows b.right.rows (ap (λ (r : Rows). r.limits) e)) in
+      let left : a.left ≡ b.left = same_rows {a = a.left} {b = b.left} (same_table (λ xs ys. hlevel props) a.left.rows b.left.rows (ap (λ (r : Rows). r.pairs) e)) in
+      let right : a.right ≡ b.right = same_rows {a = a.right} {b = b.right} (same_table (λ xs ys. hlevel props) a.right.rows b.right.rows (ap (λ (r : Rows). r.limits) e)) in
       λ i. record { left = left i; right = right i }
 
 -- contents that say the same are the same value
 pub same_contents : (a b : Contents) → policy a ≡ policy b → a ≡ b
 same_contents a b e = λ i. record {
-  roles = same_table roles_alike a.roles b.roles (ap (λ (p : Policy). p.roles) e) i;
-  steps = same_table steps_alike a.steps b.steps (ap (λ (p : Policy). p.steps) e) i;
+  roles = same_table (λ xs ys. hlevel props) a.roles b.roles (ap (λ (p : Policy). p.roles) e) i;
+  steps = same_table (λ xs ys. hlevel props) a.steps b.steps (ap (λ (p : Policy). p.steps) e) i;
   standing = same_both a.standing b.standing (ap (λ (p : Policy). p.standing) e) i;
   session = same_both a.session b.session (ap (λ (p : Policy). p.session) e) i;
   history = same_both a.history b.history (ap (λ (p : Policy). p.history) e) i;
-  rules = same_table rules_alike a.rules b.rules (ap (λ (p : Policy). p.rules) e) i;
+  rules = same_table (λ xs ys. hlevel props) a.rules b.rules (ap (λ (p : Policy). p.rules) e) i;
 }

@@ -1,4 +1,5 @@
-// Worked cases, each proved by computing it: the check fails where a case does not come out.
+// Worked cases: what comes out of small policies, proved by computing it, and what callers of a sealed policy can rely on. The check fails where
+// one does not hold.
 ghost use Rattle.std.specs.Prelude.{◌≡◌, ◌≤◌, length, Ok, MatchResult};
 
 use crate::draft::Draft;

@@ -60,8 +60,8 @@ impl Sealed {
         Draft::new().seal()
     }
 
-    // How many roles there are. They have the numbers below it. Whoever asks also learns that the policy is sound, which its type promises but
-    // does not show to callers.
+    // How many roles there are. They have the numbers below it. This and every reading below also tell that the policy is sound, which its type
+    // promises but does not show to callers.
     pub fn role_count(&self) -> u32
         ensures number { result ≡ count self.now }
         ensures sound { IsSound self.now }
